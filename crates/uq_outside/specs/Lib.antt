@@ -1,0 +1,12 @@
+pub mod Causes
+pub mod Files
+pub mod History
+pub mod HistoryLaws
+pub mod MemStreams
+pub mod Memory
+pub mod Since
+pub mod SinceLaws
+pub mod Stops
+pub mod Streams
+pub mod Untold
+pub mod Written
