@@ -1,0 +1,28 @@
+use Rattle.std.proofs.Common.{[], drop, map, string_bytes, None, refl}
+use Rattle.uq_shell.specs.Command.{request}
+use Rattle.uq_shell.specs.Run.{run_of}
+use Rattle.uq_shell.specs.declared.status.Status.TheVariants.{Usage, Disk}
+use Rattle.uq_shell.proofs.Endings.{meets_ended}
+use Rattle.uq_shell.proofs.Entry.{answer_saves_nothing, still_holds}
+use Rattle.uq_shell.proofs.Words.{run_of-usage, run_of-obeyed}
+use Rattle.uq_shell.proofs.running.run.Goals as goal
+
+pub returns-then-lacks_form-clause-headline : goal.returns-then-lacks_form-clause-headline
+returns-then-lacks_form-clause-headline g c store holds =
+    rw (run_of-usage (map string_bytes c.args.words.now) store c.if-lacks_form.ensures, c.end.ensures.ended) (meets_ended (record { events = []; status = Usage }) Usage _ _ _ c.end.ensures.line (λ _. (refl, refl)) (λ is. cc))
+
+pub returns-in-Ok-clause-stored : goal.returns-in-Ok-clause-stored
+returns-in-Ok-clause-stored g c store holds none =
+    still_holds g.D.Disk _ _ _ c.open.ensures.same
+    (rw (run_of-obeyed (map string_bytes c.args.words.now) store c.if-lacks_form.ensures, answer_saves_nothing store (request (drop 1 (map string_bytes c.args.words.now))) store None c.serve.result.done) holds)
+
+pub returns-in-Err-Disk-clause-headline : goal.returns-in-Err-Disk-clause-headline
+returns-in-Err-Disk-clause-headline g c store holds =
+    rw c.end-in-Err-Disk.ensures.ended (meets_ended (run_of (map string_bytes c.args.words.now) store) Disk _ _ _ c.end-in-Err-Disk.ensures.line (λ whole. cc) (λ is. cc))
+
+pub returns-in-Err-NotDatabase-clause-causes : goal.returns-in-Err-NotDatabase-clause-causes
+returns-in-Err-NotDatabase-clause-causes g c =
+    rw c.end-in-Err-NotDatabase.ensures.ended (record { disk = λ is. cc; stream = λ is. cc; not_database = λ is. c.open.ensures.not_database (cc) })
+
+pub returns-in-Err-NotDatabase-clause-headline : goal.returns-in-Err-NotDatabase-clause-headline
+returns-in-Err-NotDatabase-clause-headline g c store holds = absurd (c.open.ensures.not_database (cc) holds.files holds.told store holds.stored)

@@ -1,0 +1,11 @@
+pub mod Command
+pub mod Database
+pub mod Followed
+pub mod Headline
+pub mod Line
+pub mod Quote
+pub mod Reply
+pub mod Request
+pub mod Run
+pub mod Store
+pub mod Written

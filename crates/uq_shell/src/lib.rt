@@ -1,0 +1,13 @@
+//! All that the program does: words to a command, a command to its reply, and `run`, which carries the theorem.
+#![tactic(auto)]
+
+mod command;
+mod database;
+mod ended;
+mod reply;
+mod running;
+mod status;
+
+pub use ended::Ended;
+pub use running::run;
+pub use status::Status;
