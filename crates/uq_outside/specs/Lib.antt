@@ -4,6 +4,8 @@ pub mod History
 pub mod HistoryLaws
 pub mod MemStreams
 pub mod Memory
+pub mod OutcomeLaws
+pub mod Outcomes
 pub mod Since
 pub mod SinceLaws
 pub mod Stops
