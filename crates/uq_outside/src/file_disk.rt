@@ -2,9 +2,13 @@
 use crate::{Disk, DiskCall, DiskFault, FileNo};
 use std::fs::{File, OpenOptions};
 use std::io;
+use std::os::fd::AsRawFd;
 use std::os::unix::fs::FileExt;
 use std::path::Path;
 use std::rt::Files;
+
+// The descriptor of standard error.
+const LAST_STREAM: i32 = 2;
 
 /// The files NAME and NAME`.journal`, once a call of `attach` has opened them. Until then, and after an `attach` that
 /// failed, every other call fails.
@@ -32,12 +36,17 @@ fn open_files<R: Files<File = File> + AllocGlobal>(rt: &R, name: &str) -> io::Re
     Ok(OpenFiles { main, journal })
 }
 
+// A file never stands in for a standard stream that was closed, or what is printed would land in it.
 fn open_or_make<R: Files<File = File>>(rt: &R, name: &str) -> io::Result<File> {
-    OpenOptions::new()
+    let file = OpenOptions::new()
         .read(true)
         .write(true)
         .create(true)
-        .open(rt, name)
+        .open(rt, name)?;
+    if file.as_raw_fd() <= LAST_STREAM {
+        return file.try_clone();
+    }
+    Ok(file)
 }
 
 // A file that was made stays after a stop only once its folder is on the disk.
@@ -53,8 +62,11 @@ impl<R> FileDisk<R> {
     ghost use Rattle.std.specs.Prelude.{◌≡◌, IfErr};
     ghost use Rattle.uq_outside.specs.Causes.{HasCause};
 
-    /// A disk over the files of this runtime.
-    pub fn new(rt: R) -> FileDisk<R> {
+    /// A disk over the files of this runtime, none of which is open yet.
+    pub fn new(rt: R) -> FileDisk<R>
+        ensures faults { result.faults ≡ 0 }
+        ensures reads { result.reads ≡ 0 }
+    {
         FileDisk {
             rt,
             files: None,

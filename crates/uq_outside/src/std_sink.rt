@@ -10,8 +10,12 @@ pub struct StdSink<O> {
 }
 
 impl<O> StdSink<O> {
-    /// A sink into this writer.
-    pub fn new(output: O) -> StdSink<O> {
+    ghost use Rattle.std.specs.Prelude.{◌≡◌};
+
+    /// A sink into this writer, with no fault counted yet.
+    pub fn new(output: O) -> StdSink<O>
+        ensures { result.faults ≡ 0 }
+    {
         StdSink { output, faults: 0 }
     }
 }

@@ -12,8 +12,14 @@ pub struct StdSource<I> {
 }
 
 impl<I> StdSource<I> {
-    /// A source of what this reader gives.
-    pub fn new(input: I) -> StdSource<I> {
+    ghost use Rattle.std.specs.Prelude.{◌≡◌, false};
+
+    /// A source of what this reader gives, from which nothing was taken yet.
+    pub fn new(input: I) -> StdSource<I>
+        ensures taken { result.taken ≡ 0 }
+        ensures ended { result.ended ≡ false }
+        ensures faults { result.faults ≡ 0 }
+    {
         StdSource {
             input,
             taken: 0,
