@@ -5,11 +5,8 @@ use Rattle.std.proofs.Math.Seq.{take-add}
 use Rattle.byteorder.specs.Endian.{big_number}
 use Rattle.byteorder.specs.Numbers.{big_number-reads_back}
 use Rattle.std.specs.Int.{bytes_high_first}
+use Rattle.uq_page.specs.CellLaws.{length-cell_lengths, length-cell_bytes}
 use Rattle.uq_page.specs.Cell.{cell_bytes, cell_lengths, kept_len, IsCellAt}
-
-pub length-cell_lengths : (key_len len : ℕ) → length (cell_lengths key_len len) ≡ 6
-unfolding cell_lengths
-length-cell_lengths key_len len = refl
 
 -- the six bytes tell both lengths
 pub cell_lengths_inj : (k l m n : ℕ) → k < 2 ^ 16 → l < 2 ^ 32 → m < 2 ^ 16 → n < 2 ^ 32 → cell_lengths k l ≡ cell_lengths m n → (k ≡ m) × (l ≡ n)
@@ -65,10 +62,6 @@ pub record Parsed (page : List ℕ) (at key_len len : ℕ) (key last : List ℕ)
   pub key_size : length key ≡ key_len
   pub key_is : key ≡ take key_len (drop 6 (drop at page))
   pub last_is : last ≡ drop key_len (drop 6 (drop at page))
-
-pub length-cell_bytes : (key : List ℕ) (len : ℕ) (kept : List ℕ) → length (cell_bytes key len kept) ≡ 6 + length key + length kept
-length-cell_bytes key len kept =
-    length-append (cell_lengths (length key) len ++ key) kept ∙ ap (λ n. n + length kept) (length-append (cell_lengths (length key) len) key ∙ ap (λ n. n + length key) (length-cell_lengths (length key) len))
 
 -- then a whole cell lies there, where the value's place is not cut off
 pub cell_found : (page : List ℕ) (at key_len len : ℕ) (key last kept : List ℕ) → Parsed page at key_len len key last

@@ -1,6 +1,9 @@
 pub mod Bucket
 pub mod Cell
+pub mod CellLaws
+pub mod Faults
 pub mod Header
 pub mod MemPages
 pub mod Page
+pub mod PageLaws
 pub mod Pages

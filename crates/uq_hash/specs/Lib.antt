@@ -1,0 +1,5 @@
+pub mod Causes
+pub mod Fnv
+pub mod Map
+pub mod Slot
+pub mod WalkOrder
