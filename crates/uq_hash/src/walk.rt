@@ -7,6 +7,7 @@ use std::cmp::Ordering;
 use crate::hash;
 
 /// The first thing by which keys are ordered: the hash, its bits reversed.
+#[tactic(auto, unfolding(crate::specs::WalkOrder::walk_rank))]
 pub(crate) fn rank_of(key: &[u8]) -> u32
     ensures { result ≡ walk_rank key.now }
 {

@@ -1,0 +1,6 @@
+pub mod EntryLemmas
+pub mod SlotLemmas
+pub mod WalkLemmas
+pub mod SpliceLemmas
+pub mod MapLemmas
+pub mod CauseLemmas
