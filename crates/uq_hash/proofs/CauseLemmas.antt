@@ -1,8 +1,10 @@
 -- The cause of a fault that is handed on.
-use Rattle.std.proofs.Common.{◌≡◌, ℕ, Bool, List, Option, Result, Ok, Err, refl, sym, ap, ◌∙◌}
+use Rattle.std.proofs.Common.{◌≡◌, ◌≤◌, ℕ, Bool, true, List, Option, Result, Ok, Err, refl, sym, ap, ◌∙◌}
 use Rattle.uq_page.specs.declared.header.Header.{Header}
 use Rattle.uq_page.specs.declared.error.ChainFault.{ChainFault}
+use Rattle.uq_page.specs.declared.error.ChainFault.TheVariants.{Corrupt, Failed, NoPage}
 use Rattle.uq_hash.specs.Causes.{HasMapCause}
+use Rattle.uq_hash.specs.Map.{WhereHeld}
 
 -- the fault of an answer, or another one
 fault_or : {A : Type 0} → ChainFault → Result A ChainFault → ChainFault
@@ -26,3 +28,18 @@ handed_on told header before now is_sound fault r is cause = record {
   corrupt = λ corrupt. cause.corrupt (same_fault fault _ r is corrupt);
   no_page = λ none. cause.no_page (same_fault fault _ r is none);
 }
+
+-- `Corrupt`, where the pages hold no map
+pub corrupted : {B : Type 0} (told : Option (List (List ℕ))) (header : Header) (before now : ℕ) (is_sound : Bool) (r : Result B ChainFault)
+    → r ≡ Err Corrupt → before ≤ now → is_sound ≡ true → WhereHeld told header (λ _. ⊥) → HasMapCause {T = B} told header before now is_sound r
+corrupted told header before now is_sound r is later sound none = record {
+  later = later;
+  failed = λ failed. let other : ⊥ = cc in absurd other;
+  sound = λ unless. sound;
+  corrupt = λ corrupt. none;
+  no_page = λ no_page. cc;
+}
+
+pub some_fault : {A : Type 0} {fault other : ChainFault} → ◌≡◌ {A = Result A ChainFault} (Err fault) (Err other) → fault ≡ other
+unfolding fault_or
+some_fault {fault = fault} same = ap (fault_or fault) same

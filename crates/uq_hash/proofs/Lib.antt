@@ -4,3 +4,4 @@ pub mod WalkLemmas
 pub mod SpliceLemmas
 pub mod MapLemmas
 pub mod CauseLemmas
+pub mod InsertLemmas

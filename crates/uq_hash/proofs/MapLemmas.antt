@@ -1,7 +1,8 @@
 -- What the pages of a map say of its entries.
 use Rattle.std.proofs.Common.{◌≡◌, ℕ, ◌+◌, ◌-◌, ◌<◌, ◌≤◌, Bool, true, false, cond, List, [], ◌∷◌, ◌++◌, length, Option, Some, None, refl, sym, ap, subst, ◌∙◌, arith, is_some}
 use Rattle.std.specs.Prelude.{slice_get}
-use Rattle.std.specs.Option.{unwrap_or}
+use Rattle.std.proofs.Common.{Bor}
+use Rattle.std.specs.Option.{unwrap_or, option_copied}
 use Rattle.std.specs.Ordering.{nat_cmp}
 use Rattle.std.specs.Cmp.Lexicographic.{slice_cmp, nat_list_cmp_total}
 use Rattle.std.specs.FinMap.{get, from_entries, get-from_entries}
@@ -26,3 +27,8 @@ read_bucket_is pages header m page held read =
 pub get_held : (pages : List (List ℕ)) (header : Header) (m : Map) (key : List ℕ) (held : HoldsMap pages header m) → find walk_cmp key held.cells ≡ get m key
 get_held pages header m key held =
     find_walk key held.cells ∙ sym (get-from_entries nat_list_cmp_total held.cells key) ∙ ap (λ (n : Map). get n key) (sym held.same)
+
+-- a value is copied where there is one
+pub is_some-copied : (o : Option (Bor (List ℕ))) → is_some (option_copied o) ≡ is_some o
+is_some-copied None = refl
+is_some-copied (Some x) = refl

@@ -17,15 +17,15 @@ walk_total = then_total (on_total walk_rank nat_cmp_total) nat_list_cmp_total
 pub bytes_same : IsAntisymmetric (slice_cmp nat_cmp)
 bytes_same = slice_cmp-IsAntisymmetric nat_cmp-IsAntisymmetric
 
-and_left : (a b : Bool) → (a && b) ≡ true → a ≡ true
+pub and_left : (a b : Bool) → (a && b) ≡ true → a ≡ true
 and_left true b h = refl
 and_left false b h = absurd (false≢true h)
 
-and_right : (a b : Bool) → (a && b) ≡ true → b ≡ true
+pub and_right : (a b : Bool) → (a && b) ≡ true → b ≡ true
 and_right true b h = h
 and_right false b h = absurd (false≢true h)
 
-less_is : (r : Ordering) → is_lt r ≡ true → r ≡ Less
+pub less_is : (r : Ordering) → is_lt r ≡ true → r ≡ Less
 less_is Less h = refl
 less_is Equal h = absurd (false≢true h)
 less_is Greater h = absurd (false≢true h)

@@ -41,13 +41,20 @@ bucket_page entries = bucket_fields (head_of entries) ++ (cells_of entries ++ ze
 abbrev pub IsStored : Entry → Type 0
 IsStored entry = (1 ≤ length entry.0) × (length entry.0 ≤ 3001) × (length entry.1 ≤ 255)
 
+-- the bytes of a key and its value, and those of their cell
+abbrev pub entry_len : Entry → ℕ
+entry_len entry = length entry.0 + length entry.1
+
+abbrev pub cell_len : Entry → ℕ
+cell_len entry = 6 + length entry.0 + length entry.1
+
 -- the bytes of all keys and values
 abbrev pub bytes_in : Map → ℕ
-bytes_in m = sum_by (λ entry. length entry.0 + length entry.1) (entries m)
+bytes_in m = sum_by entry_len (entries m)
 
 -- the bytes of all cells
 abbrev pub cells_len : Map → ℕ
-cells_len m = sum_by (λ entry. 6 + length entry.0 + length entry.1) (entries m)
+cells_len m = sum_by cell_len (entries m)
 
 -- the header's fields are right: one bucket, no free page, and the map's sums
 pub record HasFields (pages : List (List ℕ)) (header : Header) (m : Map) : Type 0 where

@@ -1,8 +1,9 @@
 //! A key put into the map.
-ghost use Rattle.std.specs.Prelude.{◌≡◌, ◌+◌, ◌-◌, ◌≤◌, ◌^◌, true, length, OnOk, IfOk, IfSome, Some, None};
-ghost use Rattle.std.specs.Option.{ForSome};
+ghost use Rattle.std.specs.Prelude.{◌≡◌, ◌+◌, ◌≤◌, ◌^◌, true, length, OnOk, IfOk, IfSome, IsSome};
+ghost use Rattle.std.specs.Option.{ForSome, option_copied};
 ghost use Rattle.std.specs.FinMap as map;
 ghost use Rattle.uq_hash.specs.Map.{HoldsMap, WhereHeld, ChangesPage, cells_len};
+ghost use Rattle.uq_hash.specs.Slot.{Recounts, value_len};
 ghost use Rattle.uq_hash.specs.Causes.{HasMapCause};
 
 use std::alloc::Global;
@@ -50,8 +51,8 @@ fn recount(h: &Header, old: Option<&[u8]>, key: &[u8], value: &[u8]) -> Option<H
     requires value { length value.now ≤ 255 }
     requires entries { h.now.entries ≤ 2 ^ 25 }
     requires bytes { h.now.bytes ≤ 2 ^ 31 }
-    ensures new { old.entry ≡ None → result ≡ Some (record h.now { entries = h.now.entries + 1; bytes = h.now.bytes + length key.now + length value.now }) }
-    ensures again { IfSome old.entry (λ old. length old.now ≤ h.now.bytes → result ≡ Some (record h.now { bytes = h.now.bytes - length old.now + length value.now })) }
+    ensures counts { IfSome result (λ new. Recounts h.now new key.now value.now (option_copied old.entry)) }
+    ensures enough { value_len (option_copied old.entry) ≤ h.now.bytes → IsSome result }
 {
     let mut new = *h;
     match old {
