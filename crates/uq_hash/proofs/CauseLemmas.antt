@@ -1,8 +1,8 @@
 -- The cause of a fault that is handed on.
-use Rattle.std.proofs.Common.{◌≡◌, ◌≤◌, ℕ, Bool, true, List, Option, Result, Ok, Err, refl, sym, ap, ◌∙◌}
+use Rattle.std.proofs.Common.{◌≡◌, ◌≤◌, ℕ, Bool, true, List, Option, Result, Ok, Err, sym, ap, ◌∙◌}
 use Rattle.uq_page.specs.declared.header.Header.{Header}
 use Rattle.uq_page.specs.declared.error.ChainFault.{ChainFault}
-use Rattle.uq_page.specs.declared.error.ChainFault.TheVariants.{Corrupt, Failed, NoPage}
+use Rattle.uq_page.specs.declared.error.ChainFault.TheVariants.{Corrupt}
 use Rattle.uq_hash.specs.Causes.{HasMapCause}
 use Rattle.uq_hash.specs.Map.{WhereHeld}
 

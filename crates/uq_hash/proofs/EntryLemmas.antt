@@ -1,10 +1,9 @@
 -- The cells of entries in the page of a bucket.
-use Rattle.std.proofs.Common.{◌≡◌, ℕ, ◌+◌, ◌-◌, ◌*◌, ◌<◌, ◌≤◌, ◌^◌, true, cond, List, [], ◌∷◌, ◌++◌, length, take, drop, get_or, refl, sym, ap, subst, ◌∙◌, arith, lit≤, append_assoc, length-append}
-use Rattle.std.specs.Prelude.{All, nat_le, if◌then◌else◌}
+use Rattle.std.proofs.Common.{◌≡◌, ℕ, ◌+◌, ◌-◌, ◌*◌, ◌≤◌, List, [], ◌∷◌, ◌++◌, length, take, drop, refl, sym, ap, subst, ◌∙◌, arith, lit≤, append_assoc, length-append}
 use Rattle.std.proofs.lemmas.List.{take_at, drop_at, drop-drop, get_or_at}
 use Rattle.std.proofs.lemmas.List.Concat.{flat_map-append}
 use Rattle.uq_page.specs.Bucket.{bucket_fields, IsBucketHead}
-use Rattle.uq_page.specs.Cell.{kept_len, cell_bytes, IsCellAt}
+use Rattle.uq_page.specs.Cell.{kept_len}
 use Rattle.uq_page.specs.CellLaws.{length-cell_bytes}
 use Rattle.uq_page.specs.Page.{zeros}
 use Rattle.uq_hash.specs.Map.{Entry, IsBucket, IsStored, IsEntryAt, bucket_page, cell, cells_of, head_of}
@@ -50,7 +49,7 @@ drop-cells page before behind is =
     let rest = zeros (4080 - length (cells_of (before ++ behind))) in
     sym (drop-drop (length (cells_of before)) 16 page)
     ∙ ap (drop (length (cells_of before))) (ap (drop 16) is.bytes ∙ drop-bucket_page (before ++ behind)
-        ∙ ap (λ xs. xs ++ rest) (cells_of-append before behind) ∙ append_assoc (cells_of before) (cells_of behind) rest)
+    ∙ ap (λ xs. xs ++ rest) (cells_of-append before behind) ∙ append_assoc (cells_of before) (cells_of behind) rest)
     ∙ drop_at (cells_of before) (cells_of behind ++ rest) (length (cells_of before)) refl
 
 kept_inline : (n : ℕ) → n ≤ 255 → n ≡ kept_len n

@@ -1,13 +1,11 @@
 -- The map with a key put into it, and the cells that hold it.
-use Rattle.std.proofs.Common.{◌≡◌, ℕ, ◌+◌, ◌-◌, ◌*◌, ◌<◌, ◌≤◌, Bool, true, false, cond, T, List, [], ◌∷◌, ◌++◌, length, Option, Some, None, refl, sym, ap, subst, ◌∙◌, arith, is_some, length-append}
+use Rattle.std.proofs.Common.{◌≡◌, ℕ, ◌+◌, ◌<◌, ◌≤◌, Bool, true, false, cond, T, List, [], ◌∷◌, ◌++◌, length, Option, Some, None, refl, sym, ap, subst, ◌∙◌, arith, is_some}
 use Rattle.std.specs.Prelude.{sum_by, All, slice_get, slice_set}
 use Rattle.std.specs.List.{AllByRecursion}
 use Rattle.std.specs.Ordering.{nat_cmp, is_eq, is_lt, eq_by_cmp}
-use Rattle.std.specs.Cmp.{Equal-is}
 use Rattle.std.specs.Cmp.Lexicographic.{slice_cmp, nat_list_cmp_total}
-use Rattle.std.specs.FinMap.{get, insert, len, entries, from_entries, contains_key, get-insert, get-entries, get-from_entries, entries-insert, len-insert, len-empty, len-entries, empty, same_map}
+use Rattle.std.specs.FinMap.{get, insert, len, entries, from_entries, get-insert, get-entries, get-from_entries, entries-insert, len-insert, len-empty, len-entries, empty, same_map}
 use Rattle.std.specs.FinMap.Entries.{put, find, by_order, below_all, is_sorted, is_sorted-put, find-put}
-use Rattle.std.specs.declared.cmp.Ordering.{Ordering}
 use Rattle.std.specs.declared.cmp.Ordering.TheVariants.{Less, Equal, Greater}
 use Rattle.std.proofs.lemmas.List.{nil_from_length, length-set, get_or-set_same}
 use Rattle.std.proofs.lemmas.Option.{slice_get-get_or}
@@ -43,7 +41,7 @@ sum_by-put : (f : Entry → ℕ) (k v : List ℕ) (xs : List Entry) → find (sl
 sum_by-put f k v [] none = sum_by-cons f (k, v) []
 sum_by-put f k v (e ∷ xs) none =
     elim (slice_cmp nat_cmp k e.0) as (λ r. slice_cmp nat_cmp k e.0 ≡ r → cond (is_eq r) (Some e.1) (find (slice_cmp nat_cmp) k xs) ≡ None
-      → sum_by f (by_order r ((k, v) ∷ e ∷ xs) ((e.0, v) ∷ xs) (e ∷ put (slice_cmp nat_cmp) k v xs)) ≡ f (k, v) + sum_by f (e ∷ xs)) [
+    → sum_by f (by_order r ((k, v) ∷ e ∷ xs) ((e.0, v) ∷ xs) (e ∷ put (slice_cmp nat_cmp) k v xs)) ≡ f (k, v) + sum_by f (e ∷ xs)) [
       | Less ↦ λ is missed. sum_by-cons f (k, v) (e ∷ xs)
       | Equal ↦ λ is missed. absurd (not_among true e.1 (find (slice_cmp nat_cmp) k xs) refl missed)
       | Greater ↦ λ is missed.
@@ -83,12 +81,12 @@ pub insert_held : (pages : List (List ℕ)) (header : Header) (m : Map) (key val
     → insert m key value ≡ from_entries (put walk_cmp key value held.cells)
 insert_held pages header m key value held =
     same_map nat_list_cmp_total bytes_same (insert m key value) (from_entries (put walk_cmp key value held.cells)) (λ q.
-      get-insert nat_list_cmp_total m key value q
-      ∙ ap (λ b. cond b (Some value) (get m q)) (sym (tie_walk q key))
-      ∙ ap (cond (eq_by_cmp walk_cmp q key) (Some value)) (sym (get_held pages header m q held))
-      ∙ sym (find-put walk_cmp walk_total q key value held.cells)
-      ∙ find_walk q (put walk_cmp key value held.cells)
-      ∙ sym (get-from_entries nat_list_cmp_total (put walk_cmp key value held.cells) q))
+    get-insert nat_list_cmp_total m key value q
+    ∙ ap (λ b. cond b (Some value) (get m q)) (sym (tie_walk q key))
+    ∙ ap (cond (eq_by_cmp walk_cmp q key) (Some value)) (sym (get_held pages header m q held))
+    ∙ sym (find-put walk_cmp walk_total q key value held.cells)
+    ∙ find_walk q (put walk_cmp key value held.cells)
+    ∙ sym (get-from_entries nat_list_cmp_total (put walk_cmp key value held.cells) q))
 
 pub order_after : (key value : List ℕ) (xs : List Entry) → is_sorted walk_cmp xs ≡ true → is_sorted walk_cmp (put walk_cmp key value xs) ≡ true
 order_after key value xs sorted = true_is (is_sorted walk_cmp (put walk_cmp key value xs)) (is_sorted-put walk_cmp walk_total key value xs (subst T (sym sorted) tt))
@@ -118,9 +116,9 @@ slot_sum : (f : Entry → ℕ) (xs : List Entry) (key new : List ℕ) (from to :
     → sum_by f (put walk_cmp key new xs) + sum_by f (entry_of key was) ≡ sum_by f xs + f (key, new)
 slot_sum f xs key new from to was slot =
     let old : sum_by f xs ≡ sum_by f slot.before + (sum_by f (entry_of key was) + sum_by f slot.behind) =
-        ap (sum_by f) slot.split ∙ sum_by-append f slot.before (entry_of key was ++ slot.behind) ∙ ap (λ n. sum_by f slot.before + n) (sum_by-append f (entry_of key was) slot.behind) in
+    ap (sum_by f) slot.split ∙ sum_by-append f slot.before (entry_of key was ++ slot.behind) ∙ ap (λ n. sum_by f slot.before + n) (sum_by-append f (entry_of key was) slot.behind) in
     let now : sum_by f (put walk_cmp key new xs) ≡ sum_by f slot.before + (f (key, new) + sum_by f slot.behind) =
-        ap (sum_by f) (slot.put_here new) ∙ sum_by-append f slot.before ((key, new) ∷ slot.behind) ∙ ap (λ n. sum_by f slot.before + n) (sum_by-cons f (key, new) slot.behind) in
+    ap (sum_by f) (slot.put_here new) ∙ sum_by-append f slot.before ((key, new) ∷ slot.behind) ∙ ap (λ n. sum_by f slot.before + n) (sum_by-cons f (key, new) slot.behind) in
     omega arith
 
 -- the header's sums are those of the cells
@@ -141,7 +139,7 @@ value_counted pages header m key from to was held slot =
     let all = bytes_held pages header m held in
     let among = value_among key was in
     let old : sum_by entry_len held.cells ≡ sum_by entry_len slot.before + (sum_by entry_len (entry_of key was) + sum_by entry_len slot.behind) =
-        ap (sum_by entry_len) slot.split ∙ sum_by-append entry_len slot.before (entry_of key was ++ slot.behind) ∙ ap (λ n. sum_by entry_len slot.before + n) (sum_by-append entry_len (entry_of key was) slot.behind) in
+    ap (sum_by entry_len) slot.split ∙ sum_by-append entry_len slot.before (entry_of key was ++ slot.behind) ∙ ap (λ n. sum_by entry_len slot.before + n) (sum_by-append entry_len (entry_of key was) slot.behind) in
     omega arith
 
 -- the pages with the new bucket hold the map with the key

@@ -5,3 +5,4 @@ pub mod SpliceLemmas
 pub mod MapLemmas
 pub mod CauseLemmas
 pub mod InsertLemmas
+pub mod CreateLemmas

@@ -1,15 +1,14 @@
 -- What the pages of a map say of its entries.
-use Rattle.std.proofs.Common.{◌≡◌, ℕ, ◌+◌, ◌-◌, ◌<◌, ◌≤◌, Bool, true, false, cond, List, [], ◌∷◌, ◌++◌, length, Option, Some, None, refl, sym, ap, subst, ◌∙◌, arith, is_some}
+use Rattle.std.proofs.Common.{◌≡◌, ℕ, List, Option, Some, None, refl, sym, ap, subst, ◌∙◌, is_some}
 use Rattle.std.specs.Prelude.{slice_get}
 use Rattle.std.proofs.Common.{Bor}
 use Rattle.std.specs.Option.{unwrap_or, option_copied}
-use Rattle.std.specs.Ordering.{nat_cmp}
-use Rattle.std.specs.Cmp.Lexicographic.{slice_cmp, nat_list_cmp_total}
-use Rattle.std.specs.FinMap.{get, from_entries, get-from_entries}
+use Rattle.std.specs.Cmp.Lexicographic.{nat_list_cmp_total}
+use Rattle.std.specs.FinMap.{get, get-from_entries}
 use Rattle.std.specs.FinMap.Entries.{find}
 use Rattle.uq_page.specs.declared.header.Header.{Header}
 use Rattle.uq_hash.specs.WalkOrder.{walk_cmp}
-use Rattle.uq_hash.specs.Map.{Map, Entry, HoldsMap, IsBucket}
+use Rattle.uq_hash.specs.Map.{Map, HoldsMap, IsBucket}
 use Rattle.uq_hash.proofs.WalkLemmas.{find_walk}
 
 pub some_same : {A : Type 0} {x y : A} → ◌≡◌ {A = Option A} (Some x) (Some y) → x ≡ y

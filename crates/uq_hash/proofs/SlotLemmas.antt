@@ -1,5 +1,5 @@
 -- The search for a key's slot, one cell after another.
-use Rattle.std.proofs.Common.{◌≡◌, ℕ, ◌+◌, ◌-◌, ◌<◌, ◌≤◌, true, cond, List, [], ◌∷◌, ◌++◌, length, take, drop, get_or, Option, Some, None, refl, sym, ap, subst, ◌∙◌, arith, append_assoc, length-append, append-nil}
+use Rattle.std.proofs.Common.{◌≡◌, ℕ, ◌+◌, ◌<◌, ◌≤◌, true, cond, List, [], ◌∷◌, ◌++◌, length, take, drop, get_or, Some, None, refl, sym, ap, subst, ◌∙◌, arith, append_assoc, length-append, append-nil}
 use Rattle.std.proofs.lemmas.List.{drop_more, take_more, drop_all, take-append-drop}
 use Rattle.std.specs.Ordering.{is_eq}
 use Rattle.std.specs.Cmp.{tied_itself}
@@ -7,7 +7,7 @@ use Rattle.std.specs.FinMap.Entries.{find, put, by_order, is_sorted}
 use Rattle.std.specs.declared.cmp.Ordering.TheVariants.{Less, Equal, Greater}
 use Rattle.uq_hash.specs.WalkOrder.{walk_cmp}
 use Rattle.uq_hash.specs.Map.{Entry, IsBucket, IsEntryAt, cell, cells_of}
-use Rattle.uq_hash.specs.Slot.{IsSlot, entry_of}
+use Rattle.uq_hash.specs.Slot.{IsSlot}
 use Rattle.uq_hash.proofs.EntryLemmas.{length-cell, cells_of-append, entry_at}
 use Rattle.uq_hash.proofs.WalkLemmas.{walk_total, walk_same, sorted_drop, find_less}
 
@@ -33,14 +33,14 @@ passed_more xs key at i next passed within greater step =
     let split = drop_more xs i ([], []) within in
     let front = take_more xs i ([], []) within in
     let longer : length (cells_of (take (i + 1) xs)) ≡ length (cells_of (take i xs)) + length (cell e) =
-        ap (λ ys. length (cells_of ys)) front ∙ ap length (cells_of-append (take i xs) (e ∷ [])) ∙ length-append (cells_of (take i xs)) (cell e ++ [])
-        ∙ ap (λ n. length (cells_of (take i xs)) + n) (ap length (append-nil (cell e))) in
+    ap (λ ys. length (cells_of ys)) front ∙ ap length (cells_of-append (take i xs) (e ∷ [])) ∙ length-append (cells_of (take i xs)) (cell e ++ [])
+    ∙ ap (λ n. length (cells_of (take i xs)) + n) (ap length (append-nil (cell e))) in
     record {
       begins = omega arith;
       finds = passed.finds ∙ ap (find walk_cmp key) split ∙ ap (λ r. cond (is_eq r) (Some e.1) (find walk_cmp key rest)) greater;
       puts = λ new. passed.puts new ∙ ap (λ ys. take i xs ++ put walk_cmp key new ys) split
-        ∙ ap (λ r. take i xs ++ by_order r ((key, new) ∷ e ∷ rest) ((e.0, new) ∷ rest) (e ∷ put walk_cmp key new rest)) greater
-        ∙ sym (append_assoc (take i xs) (e ∷ []) (put walk_cmp key new rest)) ∙ ap (λ ys. ys ++ put walk_cmp key new rest) (sym front);
+          ∙ ap (λ r. take i xs ++ by_order r ((key, new) ∷ e ∷ rest) ((e.0, new) ∷ rest) (e ∷ put walk_cmp key new rest)) greater
+          ∙ sym (append_assoc (take i xs) (e ∷ []) (put walk_cmp key new rest)) ∙ ap (λ ys. ys ++ put walk_cmp key new rest) (sym front);
     }
 
 one_cell : (e : Entry) → length (cells_of (e ∷ [])) ≡ length (cell e)
@@ -60,7 +60,7 @@ slot_here xs at i to within end passed =
       ends = end ∙ ap (λ n. at + n) (sym (one_cell e));
       found = passed.finds ∙ ap (find walk_cmp e.0) split ∙ ap (λ r. cond (is_eq r) (Some e.1) (find walk_cmp e.0 rest)) tie;
       put_here = λ new. passed.puts new ∙ ap (λ ys. take i xs ++ put walk_cmp e.0 new ys) split
-        ∙ ap (λ r. take i xs ++ by_order r ((e.0, new) ∷ e ∷ rest) ((e.0, new) ∷ rest) (e ∷ put walk_cmp e.0 new rest)) tie;
+          ∙ ap (λ r. take i xs ++ by_order r ((e.0, new) ∷ e ∷ rest) ((e.0, new) ∷ rest) (e ∷ put walk_cmp e.0 new rest)) tie;
     }
 
 -- the cell has this key
@@ -89,8 +89,8 @@ slot_less xs key at i passed within less sorted =
       ends = nothing_here at;
       found = passed.finds ∙ ap (find walk_cmp key) split ∙ find_less key e rest less (ap (is_sorted walk_cmp) (sym split) ∙ sorted_drop i xs sorted);
       put_here = λ new. passed.puts new ∙ ap (λ ys. take i xs ++ put walk_cmp key new ys) split
-        ∙ ap (λ r. take i xs ++ by_order r ((key, new) ∷ e ∷ rest) ((e.0, new) ∷ rest) (e ∷ put walk_cmp key new rest)) less
-        ∙ ap (λ ys. take i xs ++ (key, new) ∷ ys) (sym split);
+          ∙ ap (λ r. take i xs ++ by_order r ((key, new) ∷ e ∷ rest) ((e.0, new) ∷ rest) (e ∷ put walk_cmp key new rest)) less
+          ∙ ap (λ ys. take i xs ++ (key, new) ∷ ys) (sym split);
     }
 
 -- all cells are passed
@@ -135,4 +135,4 @@ pub read_greater : (xs : List Entry) (key : List ℕ) (at i : ℕ) (k v : List �
     → walk_cmp key k ≡ Greater → Passed xs key (at + 6 + length k + length v) (i + 1)
 read_greater xs key at i k v passed within key_is value_is greater =
     passed_more xs key at i (at + 6 + length k + length v) passed within (ap (walk_cmp key) (sym key_is) ∙ greater)
-      (ap (λ w. at + 6 + length w + length v) key_is ∙ ap (λ w. at + 6 + length (entry xs i).0 + length w) value_is ∙ cell_end at (entry xs i))
+    (ap (λ w. at + 6 + length w + length v) key_is ∙ ap (λ w. at + 6 + length (entry xs i).0 + length w) value_is ∙ cell_end at (entry xs i))

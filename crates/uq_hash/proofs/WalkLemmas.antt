@@ -1,5 +1,5 @@
 -- The walk order is an order of the keys, under which a key is found as by its bytes.
-use Rattle.std.proofs.Common.{◌≡◌, ℕ, zero, suc, drop, Bool, true, false, cond, ◌&&◌, List, [], ◌∷◌, Some, None, refl, sym, ap, subst, ◌∙◌}
+use Rattle.std.proofs.Common.{◌≡◌, ℕ, zero, suc, drop, Bool, true, false, cond, ◌&&◌, List, [], ◌∷◌, Some, None, refl, sym, ap, ◌∙◌}
 use Rattle.std.specs.Ordering.{nat_cmp, is_eq, is_lt, eq_by_cmp}
 use Rattle.std.specs.Cmp.{IsTotalOrder, tied_itself, tied_then, both_ways, Equal-is, on_total, then_total, nat_cmp_total}
 use Rattle.std.specs.Cmp.Lexicographic.{slice_cmp, nat_list_cmp_total}
@@ -34,8 +34,8 @@ less_is Greater h = absurd (false≢true h)
 pub tie_walk : (q k : List ℕ) → eq_by_cmp walk_cmp q k ≡ eq_by_cmp (slice_cmp nat_cmp) q k
 tie_walk q k =
     both_ways (eq_by_cmp walk_cmp q k) (eq_by_cmp (slice_cmp nat_cmp) q k)
-      (λ t. and_right (is_eq (nat_cmp (walk_rank q) (walk_rank k))) (is_eq (slice_cmp nat_cmp q k)) (tied_then (nat_cmp (walk_rank q) (walk_rank k)) (slice_cmp nat_cmp q k) ∙ t))
-      (λ t. ap (λ (x : List ℕ). is_eq (walk_cmp q x)) (sym (bytes_same q k ((Equal-is (slice_cmp nat_cmp q k)).0 t))) ∙ ap is_eq (tied_itself walk_total q))
+    (λ t. and_right (is_eq (nat_cmp (walk_rank q) (walk_rank k))) (is_eq (slice_cmp nat_cmp q k)) (tied_then (nat_cmp (walk_rank q) (walk_rank k)) (slice_cmp nat_cmp q k) ∙ t))
+    (λ t. ap (λ (x : List ℕ). is_eq (walk_cmp q x)) (sym (bytes_same q k ((Equal-is (slice_cmp nat_cmp q k)).0 t))) ∙ ap is_eq (tied_itself walk_total q))
 
 pub walk_same : IsAntisymmetric walk_cmp
 walk_same q k tie = bytes_same q k ((Equal-is (slice_cmp nat_cmp q k)).0 (sym (tie_walk q k) ∙ ap is_eq tie))

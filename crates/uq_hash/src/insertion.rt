@@ -6,18 +6,23 @@ ghost use Rattle.uq_hash.specs.Map.{HoldsMap, WhereHeld, ChangesPage, cells_len}
 ghost use Rattle.uq_hash.specs.Slot.{Recounts, value_len};
 ghost use Rattle.uq_hash.specs.Causes.{HasMapCause};
 
-use std::alloc::Global;
-use uq_page::{ChainFault, Header, Pages};
-
 use crate::bucket::{read_head, read_root};
 use crate::slot::locate;
 use crate::splice::with_entry;
+use std::alloc::Global;
+use uq_page::{ChainFault, Header, Pages};
 
 /// Gives the key this value, and answers whether the key was there.
 ///
 /// Where the pages hold a map with `h`, they hold with the new `h` the map with this one change. After a
 /// refusal nothing is said of the pages and of `h`.
-pub fn insert<P: Pages>(_alloc: Global, p: &mut P, h: &mut Header, key: &[u8], value: &[u8]) -> Result<bool, ChainFault>
+pub fn insert<P: Pages>(
+    _alloc: Global,
+    p: &mut P,
+    h: &mut Header,
+    key: &[u8],
+    value: &[u8],
+) -> Result<bool, ChainFault>
     requires sound { P.is_sound p.old ≡ true }
     requires key { 1 ≤ length key.now }
     requires key_end { length key.now ≤ 3001 }

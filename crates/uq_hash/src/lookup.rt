@@ -5,17 +5,21 @@ ghost use Rattle.std.specs.FinMap as map;
 ghost use Rattle.uq_hash.specs.Map.{WhereHeld};
 ghost use Rattle.uq_hash.specs.Causes.{HasMapCause, UnlessFailed};
 
-use std::alloc::Global;
-use uq_page::{ChainFault, Header, Pages};
-
 use crate::bucket::{read_head, read_root};
 use crate::slot::locate;
+use std::alloc::Global;
+use uq_page::{ChainFault, Header, Pages};
 
 /// The value of a key, where the key is there.
 ///
 /// Where the pages hold a map with `h`, it is the map's. Where they hold none, the answer is `Corrupt` or
 /// some value. At most three pages are asked for besides the bucket's.
-pub fn find<P: Pages>(alloc: Global, p: &mut P, h: &Header, key: &[u8]) -> Result<Option<Vec<u8>>, ChainFault>
+pub fn find<P: Pages>(
+    alloc: Global,
+    p: &mut P,
+    h: &Header,
+    key: &[u8],
+) -> Result<Option<Vec<u8>>, ChainFault>
     requires { P.is_sound p.old ≡ true }
     ensures found { IfOk result (λ found. WhereHeld (P.pages p.old) h.now (λ m. option_map (λ value. value.items) found ≡ map.get m key.now)) }
     ensures same { UnlessFailed result (P.pages p.new ≡ P.pages p.old) }

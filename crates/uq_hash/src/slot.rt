@@ -5,10 +5,9 @@ ghost use Rattle.uq_page.specs.Page.{bytes_of};
 ghost use Rattle.uq_hash.specs.Map.{Entry, IsBucket, IsEntryAt};
 ghost use Rattle.uq_hash.specs.Slot.{IsSlot};
 
+use crate::walk::{compare, rank_of};
 use std::cmp::Ordering;
 use uq_page::{CellValue, Page, read_cell};
-
-use crate::walk::{compare, rank_of};
 
 /// Where the cells of a bucket page begin.
 const CELLS_AT: u32 = 16;

@@ -7,9 +7,8 @@ ghost use Rattle.uq_hash.specs.WalkOrder.{walk_cmp};
 ghost use Rattle.uq_hash.specs.Map.{Entry, IsBucket, head_of, bucket_page, cells_of, cell};
 ghost use Rattle.uq_hash.specs.Slot.{IsSlot};
 
-use uq_page::{BucketHead, Cell, CellValue, Page, write_bucket, write_cell};
-
 use crate::slot::{LENGTHS, Slot};
+use uq_page::{BucketHead, Cell, CellValue, Page, write_bucket, write_cell};
 
 /// The cells of a page up to byte `from` and those between `to` and `end`, with a cell in between.
 fn splice(old: &Page, from: u32, to: u32, end: u32, key: &[u8], value: &[u8]) -> Page
@@ -37,7 +36,13 @@ fn splice(old: &Page, from: u32, to: u32, end: u32, key: &[u8], value: &[u8]) ->
 
 /// The page of the bucket with this value of the key. `None` where the page has no room for it, or its
 /// cells reach behind their end.
-pub(crate) fn with_entry(page: &Page, head: &BucketHead, slot: &Slot<'_>, key: &[u8], value: &[u8]) -> Option<Page>
+pub(crate) fn with_entry(
+    page: &Page,
+    head: &BucketHead,
+    slot: &Slot<'_>,
+    key: &[u8],
+    value: &[u8],
+) -> Option<Page>
     requires low { 16 ≤ slot.now.from }
     requires order { slot.now.from ≤ slot.now.to }
     requires end { head.now.end ≤ 4096 }

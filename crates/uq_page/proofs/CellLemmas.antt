@@ -6,7 +6,7 @@ use Rattle.byteorder.specs.Endian.{big_number}
 use Rattle.byteorder.specs.Numbers.{big_number-reads_back}
 use Rattle.std.specs.Int.{bytes_high_first}
 use Rattle.uq_page.specs.CellLaws.{length-cell_lengths, length-cell_bytes}
-use Rattle.uq_page.specs.Cell.{cell_bytes, cell_lengths, kept_len, IsCellAt}
+use Rattle.uq_page.specs.Cell.{cell_lengths, kept_len, IsCellAt}
 
 -- the six bytes tell both lengths
 pub cell_lengths_inj : (k l m n : ℕ) → k < 2 ^ 16 → l < 2 ^ 32 → m < 2 ^ 16 → n < 2 ^ 32 → cell_lengths k l ≡ cell_lengths m n → (k ≡ m) × (l ≡ n)

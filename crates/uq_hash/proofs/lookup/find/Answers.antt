@@ -1,7 +1,6 @@
-use Rattle.std.proofs.Common.{◌≡◌, Option, Some, Err, List, ℕ, length, sym, ap, subst, ◌∙◌}
+use Rattle.std.proofs.Common.{◌≡◌, Option, Some, Err, sym, ap, subst, ◌∙◌}
 use Rattle.std.proofs.lemmas.Result.{err_from_is_err_and}
 use Rattle.std.specs.Option.{option_copied, IsSomeAnd}
-use Rattle.uq_page.specs.declared.bucket.BucketHead.{BucketHead}
 use Rattle.uq_page.specs.Page.{bytes_of}
 use Rattle.uq_hash.specs.declared.slot.Slot.{Slot}
 use Rattle.uq_hash.specs.Map.{IsBucket, head_of}
@@ -14,7 +13,7 @@ pub returns-in_err-page-clause-cause : goal.returns-in_err-page-clause-cause
 returns-in_err-page-clause-cause g c =
     let fault = err_from_is_err_and c.from_residual.result c.from_residual.ensures.1 in
     handed_on (g.P.Pages.pages c.args.p.now) c.args.h.now (g.P.Pages.faults c.args.p.now) (g.P.Pages.faults c.read_root.new.p) (g.P.Pages.is_sound c.read_root.new.p)
-      c.in_err-page.field-0.0 c.from_residual.result (fault.1 ∙ ap Err fault.2) c.in_err-page.ensures.cause
+    c.in_err-page.field-0.0 c.from_residual.result (fault.1 ∙ ap Err fault.2) c.in_err-page.ensures.cause
 
 pub returns-in-Ok-clause-found : goal.returns-in-Ok-clause-found
 returns-in-Ok-clause-found g c pages told m held =

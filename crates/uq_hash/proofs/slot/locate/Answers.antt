@@ -1,6 +1,6 @@
-use Rattle.std.proofs.Common.{◌≡◌, ◌<◌, ◌≤◌, length, sym, ◌∙◌, arith}
+use Rattle.std.proofs.Common.{◌<◌, length, sym, arith}
 use Rattle.uq_page.specs.Page.{bytes_of}
-use Rattle.uq_hash.proofs.SlotLemmas.{entry, entry_here, passed_none, read_equal, read_greater, read_less, slot_end}
+use Rattle.uq_hash.proofs.SlotLemmas.{entry_here, read_equal, read_greater, read_less, slot_end}
 use Rattle.uq_hash.proofs.slot.locate.Goals as goal
 use Rattle.uq_hash.proofs.slot.locate.Goals.{else-loop-seen-test, then-loop-seen-test+in_ok-entry+in-Less}
 
@@ -25,10 +25,10 @@ loop-seen-preserved c =
       low = omega arith;
       high = omega arith;
       passed = λ entries is count.
-        let within : c.loop-seen._seen < length entries = omega arith in
-        let passed = c.loop-seen.invariant.passed entries is count in
-        let read = c.in_ok-entry.ensures.exact _ _ (entry_here (bytes_of c.args.page.now) entries c.args.key.now c.loop-seen.at c.loop-seen._seen is passed within) in
-        read_greater entries c.args.key.now c.loop-seen.at c.loop-seen._seen _ _ passed within read.0 read.1 (sym c.in-Greater.ensures);
+          let within : c.loop-seen._seen < length entries = omega arith in
+          let passed = c.loop-seen.invariant.passed entries is count in
+          let read = c.in_ok-entry.ensures.exact _ _ (entry_here (bytes_of c.args.page.now) entries c.args.key.now c.loop-seen.at c.loop-seen._seen is passed within) in
+          read_greater entries c.args.key.now c.loop-seen.at c.loop-seen._seen _ _ passed within read.0 read.1 (sym c.in-Greater.ensures);
     }
 
 pub returns-clause-exact : goal.returns-clause-exact

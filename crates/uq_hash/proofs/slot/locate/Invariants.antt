@@ -8,5 +8,5 @@ abbrev pub invariant-loop-seen : goal.invariant-loop-seen
 invariant-loop-seen l = record {
   low : 16 ≤ l.at;
   high : l.at ≤ 4096;
-  passed : (entries : List Entry) → IsBucket (bytes_of l.page) entries → l.cells ≡ length entries → Passed entries l.key l.at l._seen
+  passed : (entries : List Entry) → IsBucket (bytes_of l.page) entries → l.cells ≡ length entries → Passed entries l.key l.at l._seen;
 }

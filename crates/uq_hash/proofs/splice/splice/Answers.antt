@@ -1,4 +1,4 @@
-use Rattle.std.proofs.Common.{◌≡◌, ◌+◌, ◌-◌, ◌≤◌, ◌++◌, ℕ, List, length, take, drop, sym, ap, ◌∙◌, arith, length-append}
+use Rattle.std.proofs.Common.{◌≡◌, ◌+◌, ◌-◌, ℕ, List, length, take, drop, ap, ◌∙◌, arith, length-append}
 use Rattle.std.proofs.lemmas.List.{length-take-le, length-drop}
 use Rattle.uq_page.specs.Page.{bytes_of, written, zeros}
 use Rattle.uq_page.specs.PageLaws.{written-thrice, length-zeros}
@@ -21,7 +21,7 @@ returns c =
     let both = length-append kept new in
     let size : length new ≡ 6 + length c.args.key.now + length c.args.value.now = length-cell (c.args.key.now, c.args.value.now) in
     let first : bytes_of c.put.new.self ≡ written 16 kept (zeros 4096) =
-        c.put.ensures.bytes ∙ ap (λ bytes. written 16 (take (c.args.from - 16) (drop 16 bytes)) (bytes_of c.zero-page.result)) c.bytes-bytes.ensures.bytes ∙ ap (written 16 kept) c.zero-page.ensures in
+    c.put.ensures.bytes ∙ ap (λ bytes. written 16 (take (c.args.from - 16) (drop 16 bytes)) (bytes_of c.zero-page.result)) c.bytes-bytes.ensures.bytes ∙ ap (written 16 kept) c.zero-page.ensures in
     let third : bytes_of c.put-2.new.self ≡ written behind rest (bytes_of c.write_cell.new.page) =
-        c.put-2.ensures.bytes ∙ ap (λ bytes. written behind (take (c.args.end - c.args.to) (drop c.args.to bytes)) (bytes_of c.write_cell.new.page)) c.bytes-bytes.ensures.bytes in
+    c.put-2.ensures.bytes ∙ ap (λ bytes. written behind (take (c.args.end - c.args.to) (drop c.args.to bytes)) (bytes_of c.write_cell.new.page)) c.bytes-bytes.ensures.bytes in
     written-thrice 16 c.args.from behind kept new rest (zeros 4096) _ _ _ first c.write_cell.ensures third (omega arith) (omega arith) (omega arith)
