@@ -19,11 +19,7 @@ use Rattle.uq_hash.specs.Slot.{IsSlot, Recounts, entry_of, value_len}
 use Rattle.uq_hash.proofs.EntryLemmas.{length-cells_of-cons}
 use Rattle.uq_hash.proofs.MapLemmas.{get_held}
 use Rattle.uq_hash.proofs.SpliceLemmas.{sums}
-use Rattle.uq_hash.proofs.WalkLemmas.{and_left, and_right, bytes_same, find_walk, less_is, tie_walk, walk_total}
-
-true_is : (b : Bool) → T b → b ≡ true
-true_is true t = refl
-true_is false t = absurd t
+use Rattle.uq_hash.proofs.WalkLemmas.{and_left, and_right, bytes_same, find_walk, less_is, tie_walk, true_is, walk_total}
 
 -- a key below all of them is not among them
 below_none : (k : List ℕ) (xs : List Entry) → below_all walk_cmp k xs ≡ true → find walk_cmp k xs ≡ None

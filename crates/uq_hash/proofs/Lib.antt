@@ -6,3 +6,4 @@ pub mod MapLemmas
 pub mod CauseLemmas
 pub mod InsertLemmas
 pub mod CreateLemmas
+pub mod LawLemmas
