@@ -1,10 +1,10 @@
 //! A key put into the map.
-ghost use Rattle.std.specs.Prelude.{◌≡◌, ◌+◌, ◌≤◌, ◌^◌, true, length, OnOk, IfOk, IfSome, IsSome};
+ghost use Rattle.std.specs.Prelude.{◌≡◌, ◌+◌, ◌≤◌, ◌^◌, true, length, OnOk, IfOk, IfSome, IsSome, is_some};
 ghost use Rattle.std.specs.Option.{ForSome, option_copied};
 ghost use Rattle.std.specs.FinMap as map;
 ghost use Rattle.uq_hash.specs.Map.{HoldsMap, WhereHeld, ChangesPage, cells_len};
 ghost use Rattle.uq_hash.specs.Slot.{Recounts, value_len};
-ghost use Rattle.uq_hash.specs.Causes.{HasMapCause};
+ghost use Rattle.uq_hash.specs.Causes.{HasMapCause, UnlessFailed};
 
 use crate::bucket::{read_head, read_root};
 use crate::slot::locate;
@@ -35,6 +35,7 @@ pub fn insert<P: Pages>(
     ensures there { IfOk result (λ there. WhereHeld (P.pages p.old) h.old (λ m. there ≡ map.contains_key m key.now)) }
     ensures inserted { OnOk result (WhereHeld (P.pages p.old) h.old (λ m. ForSome (P.pages p.new) (λ pages. HoldsMap pages h.new (map.insert m key.now value.now)))) }
     ensures page { OnOk result (ChangesPage h.old.root (P.pages p.old) (P.pages p.new)) }
+    ensures told { UnlessFailed result (is_some (P.pages p.new) ≡ is_some (P.pages p.old)) }
     ensures size { P.size p.new ≡ P.size p.old }
     ensures keeps { P.keeps p.old p.new }
     ensures cause { HasMapCause (P.pages p.old) h.old (P.faults p.old) (P.faults p.new) (P.is_sound p.new) result }
