@@ -1,0 +1,25 @@
+-- What follows from the layout alone.
+use Rattle.std.specs.Prelude.{◌≡◌, ℕ, ◌+◌, ◌*◌, List, length, sum_by, slice_set}
+use Rattle.std.specs.FinMap.{get, insert, len}
+use Rattle.uq_page.specs.declared.header.Header.{Header}
+use Rattle.uq_hash.specs.Map.{Map, HoldsMap, bytes_in, cells_len, entry_len}
+use Rattle.uq_hash.specs.Slot.{entry_of}
+
+-- pages and a header hold one map at most
+abbrev pub OneMap : Type 0
+OneMap = (pages : List (List ℕ)) (header : Header) (m n : Map) → HoldsMap pages header m → HoldsMap pages header n → m ≡ n
+
+-- the header's own page may hold anything
+abbrev pub ApartFromHeader : Type 0
+ApartFromHeader = (pages : List (List ℕ)) (header : Header) (m : Map) (page : List ℕ) → HoldsMap pages header m → HoldsMap (slice_set pages 0 page) header m
+
+-- what a map's cells take, by the sums that a header keeps
+abbrev pub CellsBySums : Type 0
+CellsBySums = (m : Map) → cells_len m ≡ 6 * len m + bytes_in m
+
+-- the sums after an insertion: the old entry of the key, where there was one, is no longer counted
+abbrev pub SumsOfInsert : Type 0
+SumsOfInsert =
+    (m : Map) (key value : List ℕ)
+    → (len (insert m key value) + length (entry_of key (get m key)) ≡ len m + 1)
+    × (bytes_in (insert m key value) + sum_by entry_len (entry_of key (get m key)) ≡ bytes_in m + (length key + length value))

@@ -1,0 +1,22 @@
+//! Laws of the layout, each the contract of a call that does nothing.
+ghost use Rattle.uq_hash.specs.Laws.{OneMap, ApartFromHeader, CellsBySums, SumsOfInsert};
+
+/// Pages and a header hold one map at most.
+pub fn one_map()
+    ensures { OneMap }
+{}
+
+/// The map does not depend on the page of the header.
+pub fn apart_from_header()
+    ensures { ApartFromHeader }
+{}
+
+/// What the cells of a map take is known from the sums in the header.
+pub fn cells_by_sums()
+    ensures { CellsBySums }
+{}
+
+/// What the sums in the header are after an insertion.
+pub fn sums_of_insert()
+    ensures { SumsOfInsert }
+{}
