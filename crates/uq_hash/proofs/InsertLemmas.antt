@@ -108,7 +108,7 @@ cells_after pages header m key value held =
     ∙ ap (λ (n : Map). sum_by cell_len (entries n)) (sym (insert_held pages header m key value held))
 
 -- a sum over the old entries and over the new ones
-slot_sum : (f : Entry → ℕ) (xs : List Entry) (key new : List ℕ) (from to : ℕ) (was : Option (List ℕ)) → IsSlot xs key from to was
+pub slot_sum : (f : Entry → ℕ) (xs : List Entry) (key new : List ℕ) (from to : ℕ) (was : Option (List ℕ)) → IsSlot xs key from to was
     → sum_by f (put walk_cmp key new xs) + sum_by f (entry_of key was) ≡ sum_by f xs + f (key, new)
 slot_sum f xs key new from to was slot =
     let old : sum_by f xs ≡ sum_by f slot.before + (sum_by f (entry_of key was) + sum_by f slot.behind) =

@@ -3,6 +3,7 @@ pub mod SlotLemmas
 pub mod WalkLemmas
 pub mod SpliceLemmas
 pub mod MapLemmas
+pub mod RoomLemmas
 pub mod CauseLemmas
 pub mod InsertLemmas
 pub mod CreateLemmas

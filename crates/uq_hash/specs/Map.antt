@@ -102,3 +102,11 @@ IsEntryAt page at key value = IsCellAt page at key (length value) value
 pub record IsCreated (old new : Option (List (List ℕ))) (header : Header) : Type 0 where
   pub pages : new ≡ option_map (λ _. header_page header ∷ bucket_page [] ∷ []) old
   pub holds : ForSome new (λ pages. HoldsMap pages header empty)
+
+-- of the header's fields at most the two sums are others
+pub record KeepsFields (old new : Header) : Type 0 where
+  pub version : new.version ≡ old.version
+  pub pages : new.pages ≡ old.pages
+  pub buckets : new.buckets ≡ old.buckets
+  pub free : new.free ≡ old.free
+  pub root : new.root ≡ old.root

@@ -2,7 +2,7 @@
 ghost use Rattle.std.specs.Prelude.{◌≡◌, ◌+◌, ◌≤◌, ◌^◌, true, length, OnOk, IfOk, IfSome, IsSome, is_some};
 ghost use Rattle.std.specs.Option.{ForSome, option_copied};
 ghost use Rattle.std.specs.FinMap as map;
-ghost use Rattle.uq_hash.specs.Map.{HoldsMap, WhereHeld, ChangesPage, cells_len};
+ghost use Rattle.uq_hash.specs.Map.{HoldsMap, WhereHeld, ChangesPage, KeepsFields, cells_len};
 ghost use Rattle.uq_hash.specs.Slot.{Recounts, value_len};
 ghost use Rattle.uq_hash.specs.Causes.{HasMapCause, UnlessFailed};
 
@@ -34,6 +34,7 @@ pub fn insert<P: Pages>(
     requires room { WhereHeld (P.pages p.old) h.old (λ m. cells_len (map.insert m key.now value.now) ≤ 4080) }
     ensures there { IfOk result (λ there. WhereHeld (P.pages p.old) h.old (λ m. there ≡ map.contains_key m key.now)) }
     ensures inserted { OnOk result (WhereHeld (P.pages p.old) h.old (λ m. ForSome (P.pages p.new) (λ pages. HoldsMap pages h.new (map.insert m key.now value.now)))) }
+    ensures fields { OnOk result (KeepsFields h.old h.new) }
     ensures page { OnOk result (ChangesPage h.old.root (P.pages p.old) (P.pages p.new)) }
     ensures told { UnlessFailed result (is_some (P.pages p.new) ≡ is_some (P.pages p.old)) }
     ensures size { P.size p.new ≡ P.size p.old }

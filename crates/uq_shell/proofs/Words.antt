@@ -1,9 +1,10 @@
 -- Words of the command line.
-use Rattle.std.proofs.Common.{◌≡◌, ℕ, ◌≤◌, ◌==◌, Bool, true, false, List, [], ◌∷◌, length, map, drop, get_or, string_bytes, String, Global, refl, sym, ap, ◌∙◌, arith}
+use Rattle.std.proofs.Common.{◌≡◌, ℕ, ◌-◌, ◌≤◌, ◌==◌, Bool, true, false, List, [], ◌∷◌, length, map, take, drop, get_or, string_bytes, String, Global, refl, sym, ap, ◌∙◌, arith}
 use Rattle.std.specs.Prelude.{◌||◌, None}
+use Rattle.std.proofs.lemmas.List.{drop-map, take_rest}
 use Rattle.std.specs.List.{list_any}
-use Rattle.uq_shell.specs.Store.{Store}
-use Rattle.uq_shell.specs.Command.{answer, request}
+use Rattle.uq_shell.specs.Store.{Store, opened}
+use Rattle.uq_shell.specs.Command.{Request, answer, request}
 use Rattle.uq_shell.specs.Run.{begins_with_dash, is_usage, obeyed, run_of}
 use Rattle.uq_shell.specs.declared.status.Status.TheVariants as status
 
@@ -23,5 +24,9 @@ pub run_of-usage : (words : List (List ℕ)) (store : Store) → true ≡ is_usa
 run_of-usage words store is = rw (← is) refl
 
 -- words in form
-pub run_of-obeyed : (words : List (List ℕ)) (store : Store) → false ≡ is_usage words → run_of words store ≡ obeyed (answer (request (drop 1 words)) store None)
+pub run_of-obeyed : (words : List (List ℕ)) (store : Store) → false ≡ is_usage words → run_of words store ≡ obeyed (answer (request (drop 1 words)) None (opened store))
 run_of-obeyed words store is = rw (← is) refl
+
+-- the words behind the name of the database
+pub asked-rest : (asked : Request) (words : List (String Global)) → asked ≡ request (map string_bytes (take (length words - 1) (drop 1 words))) → asked ≡ request (drop 1 (map string_bytes words))
+asked-rest asked words is = rw (drop-map string_bytes 1 words) (is ∙ ap (λ (rest : List (String Global)). request (map string_bytes rest)) (take_rest words 1))

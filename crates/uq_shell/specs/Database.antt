@@ -1,15 +1,49 @@
 -- When the files of a disk are a database of a store.
-use Rattle.std.specs.Prelude.{◌≡◌, ℕ, List, [], Some}
+use Rattle.std.specs.Prelude.{◌≡◌, ◌⊎◌, ℕ, List, [], ◌∷◌, ◌++◌, length, map, Some}
 use Rattle.std.specs.Option.{ForSome}
-use Rattle.std.specs.FinMap.{empty}
+use Rattle.std.specs.FinMap.{empty, entries}
 use Rattle.uq_outside.specs.declared.disk.Disk.{Ghosts}
 use Rattle.uq_outside.specs.Files.{Files}
+use Rattle.uq_page.specs.declared.header.Header.{Header}
+use Rattle.uq_page.specs.Header.{IsHeader}
+use Rattle.uq_hash.specs.Map.{Map, Entry, HoldsMap}
 use Rattle.uq_shell.specs.Store.{Store}
 
--- an empty file is a database of the empty store
-pub record IsDatabase (store : Store) (main : List ℕ) : Type 0 where
+-- a key as it is stored, behind the byte of the space of keys
+abbrev pub stored_key : List ℕ → List ℕ
+stored_key key = 0x4b ∷ key
+
+abbrev pub stored_entry : Entry → Entry
+stored_entry entry = (stored_key entry.0, entry.1)
+
+-- the entries of the map are those of the store, under their stored keys
+abbrev pub IsStoredAs : Store → Map → Type 0
+IsStoredAs store stored = entries stored ≡ map stored_entry (entries store)
+
+-- the page of this header and a bucket, which hold the store's entries
+pub record HoldEntries (store : Store) (header : Header) (head bucket : List ℕ) : Type 0 where
+  pub fields : IsHeader head header
+  pub stored : Map
+  pub holds : HoldsMap (head ∷ bucket ∷ []) header stored
+  pub entries : IsStoredAs store stored
+
+-- a main file of two pages
+pub record IsTwoPages (store : Store) (main : List ℕ) : Type 0 where
+  pub head : List ℕ
+  pub bucket : List ℕ
+  pub head_size : length head ≡ 4096
+  pub bucket_size : length bucket ≡ 4096
+  pub whole : main ≡ head ++ bucket
+  pub header : Header
+  pub hold : HoldEntries store header head bucket
+
+-- an empty main file is a database of the empty store
+pub record IsEmpty (store : Store) (main : List ℕ) : Type 0 where
   pub no_bytes : main ≡ []
   pub no_keys : store ≡ empty
+
+abbrev pub IsDatabase : Store → List ℕ → Type 0
+IsDatabase store main = IsEmpty store main ⊎ IsTwoPages store main
 
 -- There is no journal, and the main file is a database of this store.
 pub record HoldsStore (store : Store) (files : Files) : Type 0 where

@@ -2,7 +2,9 @@ pub mod Command
 pub mod Database
 pub mod Followed
 pub mod Headline
+pub mod Keeps
 pub mod Line
+pub mod Obeying
 pub mod Quote
 pub mod Reply
 pub mod Request

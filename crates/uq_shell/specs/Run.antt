@@ -1,7 +1,7 @@
 -- What a whole run means: a function of its words and of the store at entry.
-use Rattle.std.specs.Prelude.{ℕ, Bool, true, false, ◌||◌, ◌==◌, if◌then◌else◌, List, [], ◌∷◌, length, take, drop, None}
+use Rattle.std.specs.Prelude.{ℕ, Bool, true, false, ◌||◌, ◌==◌, if◌then◌else◌, List, [], ◌∷◌, ◌++◌, length, take, drop, None}
 use Rattle.std.specs.List.{list_any, flat_map}
-use Rattle.uq_shell.specs.Store.{Store}
+use Rattle.uq_shell.specs.Store.{Store, Session, opened}
 use Rattle.uq_shell.specs.Command.{Event, Out, Commit, Answer, answer, request}
 use Rattle.uq_shell.specs.declared.status.Status.{Status}
 use Rattle.uq_shell.specs.declared.status.Status.TheVariants as status
@@ -20,13 +20,24 @@ is_usage [] = true
 is_usage (name ∷ []) = true
 is_usage (name ∷ command ∷ words) = (length name == 0) || list_any begins_with_dash (name ∷ command ∷ words)
 
+-- what is begun is committed at the end
+abbrev pub commit_at_end : Session → List Event
+commit_at_end session = if session.begun then Commit session.present ∷ [] else []
+
+-- how a run ends whose command was refused or not
+abbrev pub status_of : Bool → Status
+status_of is_refusal = if is_refusal then status.Refused else status.Done
+
 abbrev pub obeyed : Answer → Outcome
-obeyed answer = record { events = answer.events; status = if answer.is_refusal then status.Refused else status.Done }
+obeyed answer = record {
+  events = answer.events ++ commit_at_end answer.session;
+  status = status_of answer.is_refusal;
+}
 
 -- the words are the name of a database and one command
 abbrev pub run_of : List (List ℕ) → Store → Outcome
 run_of words store =
-    if is_usage words then record { events = []; status = status.Usage } else obeyed (answer (request (drop 1 words)) store None)
+    if is_usage words then record { events = []; status = status.Usage } else obeyed (answer (request (drop 1 words)) None (opened store))
 
 abbrev pub bytes_of : Event → List ℕ
 bytes_of (Out bytes) = bytes

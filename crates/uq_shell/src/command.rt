@@ -8,6 +8,7 @@ ghost use Rattle.uq_shell.specs.Request.{request_of};
 /// A command and its words.
 #[derive(Clone, Copy, Debug)]
 pub enum Command<'a> {
+    Store { key: &'a [u8], value: &'a [u8] },
     Fetch { key: &'a [u8] },
     /// The number of words is wrong.
     Bad,
@@ -44,10 +45,14 @@ pub fn read_command<'a>(words: &'a [String]) -> Command<'a>
         return Command::Bad;
     };
     match (name.as_str(), words) {
+        ("store", [key, value]) => Command::Store {
+            key: key.as_str().as_bytes(),
+            value: value.as_str().as_bytes(),
+        },
         ("fetch", [key]) => Command::Fetch {
             key: key.as_str().as_bytes(),
         },
-        ("fetch", _) => Command::Bad,
+        ("store" | "fetch", _) => Command::Bad,
         _ => Command::Unknown,
     }
 }

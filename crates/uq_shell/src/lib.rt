@@ -2,8 +2,12 @@
 #![tactic(auto)]
 
 mod command;
+mod committing;
 mod database;
 mod ended;
+mod fault;
+mod opening;
+mod quoting;
 mod reply;
 mod running;
 mod status;

@@ -1,75 +1,90 @@
 //! A run of the program, from its words to its exit status.
-ghost use Rattle.std.specs.Prelude.{◌≡◌, ◌⊎◌, ◌↔◌, ◌≤◌, ℕ, List, [], map, take, string_bytes, IsTrue, Option, None};
-ghost use Rattle.std.specs.FinMap.{empty};
+ghost use Rattle.std.specs.Prelude.{◌≡◌, ◌⊎◌, ◌↔◌, ◌≤◌, ℕ, true, false, List, [], ◌∷◌, length, map, take, string_bytes, IsTrue, IfOk, IfErr, Err, Option, None, Vec};
 ghost use Rattle.uq_outside.specs.Causes.{Rose};
-ghost use Rattle.uq_shell.specs.Store.{Store};
+ghost use Rattle.uq_shell.specs.Store.{Store, opened};
 ghost use Rattle.uq_shell.specs.Database.{Holds, HoldsNone};
-ghost use Rattle.uq_shell.specs.Command.{FetchKey, answer};
+ghost use Rattle.uq_shell.specs.Keeps.{Keeps};
+ghost use Rattle.uq_shell.specs.Command.{Answer, StoreKey, FetchKey, answer};
 ghost use Rattle.uq_shell.specs.Request.{request_of};
-ghost use Rattle.uq_shell.specs.Reply.{answer_of};
 ghost use Rattle.uq_shell.specs.Run.{run_of, is_usage, obeyed, last_commit};
 ghost use Rattle.uq_shell.specs.Followed.{ending_of, line_behind};
-ghost use Rattle.uq_shell.specs.Headline.{HasCauses, IsAnswered, Meets, IsComplete, IsCommitUnderWay};
+ghost use Rattle.uq_shell.specs.Headline.{HasCauses, Meets, IsComplete, IsCommitUnderWay};
+ghost use Rattle.uq_shell.specs.Line.{line_after};
+ghost use Rattle.uq_shell.specs.Quote.{quoted};
+ghost use Rattle.uq_shell.specs.Obeying.{Answers, Obeys, Settles};
 ghost use Rattle.uq_shell.specs.Written.{Writes};
 
 use crate::command::{Command, lacks_form, read_command};
-use crate::database::{OpenFault, open};
+use crate::committing::commit;
+use crate::database::Database;
+use crate::fault::{FetchFault, OpenFault, StoreFault};
+use crate::opening::open;
+use crate::quoting::quote;
 use crate::reply::Reply;
 use crate::{Ended, Status};
-use std::alloc::Global;
+use std::alloc::{AllocError, Global};
 use uq_outside::{Disk, Sink, Source};
 
 /// Obeys the words: the name of a database, and one command.
 pub fn run<D: Disk, I: Source, O: Sink>(
-    _alloc: Global,
+    alloc: Global,
     words: &[String],
     disk: &mut D,
-    _input: &mut I,
+    input: &mut I,
     out: &mut O,
 ) -> Ended
     // Over every disk, source and sink.
-    ensures causes { HasCauses (Rose (D.faults disk.old) (D.faults disk.new)) (Rose (I.faults _input.old) (I.faults _input.new) ⊎ Rose (O.faults out.old) (O.faults out.new)) (HoldsNone D.Disk disk.old) result.status }
+    ensures causes { HasCauses (Rose (D.faults disk.old) (D.faults disk.new)) (Rose (I.faults input.old) (I.faults input.new) ⊎ Rose (O.faults out.old) (O.faults out.new)) (HoldsNone D.Disk disk.old) result.status }
     ensures usage { (result.status ≡ Status.Usage) ↔ IsTrue (is_usage (map string_bytes words.now)) }
     ensures untouched { result.status ≡ Status.Usage → disk.new ≡ disk.old }
-    ensures unread { _input.new ≡ _input.old }
+    ensures unread { input.new ≡ input.old }
 
     // Over a disk that holds a store.
     ensures headline { (store : Store) → Holds D.Disk disk.old store → Meets (run_of (map string_bytes words.now) store) result (Rose (O.faults out.old) (O.faults out.new)) (O.written out.old) (O.written out.new) }
     ensures stored { (store : Store) → Holds D.Disk disk.old store → let run = run_of (map string_bytes words.now) store in (IsCommitUnderWay run.events result.done → ⊥) → Holds D.Disk disk.new (last_commit store (take result.done run.events)) }
-    ensures complete { (store : Store) → Holds D.Disk disk.old store → (Rose (D.faults disk.old) (D.faults disk.new) → ⊥) → (Rose (I.faults _input.old) (I.faults _input.new) → ⊥) → (Rose (O.faults out.old) (O.faults out.new) → ⊥) → IsComplete (run_of (map string_bytes words.now) store) result.status }
+    ensures complete { (store : Store) → Holds D.Disk disk.old store → (Rose (D.faults disk.old) (D.faults disk.new) → ⊥) → (Rose (I.faults input.old) (I.faults input.new) → ⊥) → (Rose (O.faults out.old) (O.faults out.new) → ⊥) → IsComplete (run_of (map string_bytes words.now) store) result.status }
 {
     if lacks_form(words) {
         return end(Status::Usage, 0, out);
     }
-    match open(disk, words[0].as_str()) {
-        Ok(()) => serve(read_command(&words[1..]), out),
+    match open(alloc, disk, words[0].as_str()) {
+        Ok(database) => obey(alloc, read_command(&words[1..]), database, disk, out),
         Err(OpenFault::Disk) => end(Status::Disk, 0, out),
         Err(OpenFault::NotDatabase) => end(Status::NotDatabase, 0, out),
+        Err(OpenFault::Memory) => end(Status::Memory, 0, out),
     }
 }
 
-/// Writes the line of the status.
-fn end<O: Sink>(status: Status, done: u128, out: &mut O) -> Ended
-    ensures ended { result ≡ record { status = status; done = done } }
-    ensures line { Writes (line_behind [] (ending_of status)) (O.written out.old) (O.written out.new) (Rose (O.faults out.old) (O.faults out.new)) }
+/// Obeys a command over a database of this disk.
+fn obey<D: Disk, O: Sink>(
+    alloc: Global,
+    command: Command<'_>,
+    mut database: Database,
+    disk: &mut D,
+    out: &mut O,
+) -> Ended
+    requires { database.is_begun ≡ false }
+    ensures obeys { (store : Store) → Keeps database store → Holds D.Disk disk.old store → Obeys D.Disk store (obeyed (answer (request_of command.entry) None (opened store))) disk.new result (Rose (O.faults out.old) (O.faults out.new)) (O.written out.old) (O.written out.new) }
+    ensures causes { HasCauses (Rose (D.faults disk.old) (D.faults disk.new)) (Rose (O.faults out.old) (O.faults out.new)) ((store : Store) → Keeps database store → ⊥) result.status }
+    ensures not_usage { result.status ≡ Status.Usage → ⊥ }
+    ensures complete { (store : Store) → Keeps database store → (Rose (D.faults disk.old) (D.faults disk.new) → ⊥) → (Rose (O.faults out.old) (O.faults out.new) → ⊥) → IsComplete (obeyed (answer (request_of command.entry) None (opened store))) result.status }
 {
-    // A fault of the sink here does not change the status.
-    let _ = out.put(status.line());
-    Ended { status, done }
+    match answer(alloc, command, &mut database) {
+        Ok(reply) => serve(&reply, &database, disk, out),
+        Err(FetchFault::Corrupt) => end(Status::NotDatabase, 0, out),
+        Err(FetchFault::Memory) => end(Status::Memory, 0, out),
+    }
 }
 
-/// Answers a command over the empty store.
-fn serve<O: Sink>(command: Command<'_>, out: &mut O) -> Ended
-    ensures meets { Meets (obeyed (answer (request_of command.entry) empty None)) result (Rose (O.faults out.old) (O.faults out.new)) (O.written out.old) (O.written out.new) }
-    ensures answered { IsAnswered (Rose (O.faults out.old) (O.faults out.new)) result.status }
-    ensures complete { (Rose (O.faults out.old) (O.faults out.new) → ⊥) → result.status ≡ (obeyed (answer (request_of command.entry) empty None)).status }
+/// Puts out the reply, and commits what is begun.
+fn serve<D: Disk, O: Sink>(reply: &Reply, database: &Database, disk: &mut D, out: &mut O) -> Ended
+    ensures obeys { (meant : Answer) (entry : Store) → Answers reply.now database.now meant → Holds D.Disk disk.old entry → Obeys D.Disk entry (obeyed meant) disk.new result (Rose (O.faults out.old) (O.faults out.new)) (O.written out.old) (O.written out.new) }
+    ensures causes { HasCauses (Rose (D.faults disk.old) (D.faults disk.new)) (Rose (O.faults out.old) (O.faults out.new)) ⊥ result.status }
+    ensures not_usage { result.status ≡ Status.Usage → ⊥ }
+    ensures complete { (meant : Answer) → Answers reply.now database.now meant → (Rose (D.faults disk.old) (D.faults disk.new) → ⊥) → (Rose (O.faults out.old) (O.faults out.new) → ⊥) → result.status ≡ (obeyed meant).status }
 {
-    let reply = answer(command);
     match out.put(reply.line()) {
-        Ok(()) => Ended {
-            status: Status::Refused,
-            done: 1,
-        },
+        Ok(()) => settle(reply, database, disk, out),
         Err(_) => Ended {
             status: Status::Stream,
             done: 0,
@@ -77,22 +92,107 @@ fn serve<O: Sink>(command: Command<'_>, out: &mut O) -> Ended
     }
 }
 
-/// The reply over the empty store.
-fn answer(command: Command<'_>) -> Reply
-    ensures { answer_of result ≡ answer (request_of command.entry) empty None }
+/// Behind the reply, commits what is begun.
+fn settle<D: Disk, O: Sink>(reply: &Reply, database: &Database, disk: &mut D, out: &mut O) -> Ended
+    ensures settles { (meant : Answer) → Answers reply.now database.now meant → Settles meant result }
+    ensures stored { (meant : Answer) (entry : Store) → Answers reply.now database.now meant → Holds D.Disk disk.old entry → (IsCommitUnderWay (obeyed meant).events result.done → ⊥) → Holds D.Disk disk.new (last_commit entry (take result.done (obeyed meant).events)) }
+    ensures line { Writes (line_behind [] (ending_of result.status)) (O.written out.old) (O.written out.new) (Rose (O.faults out.old) (O.faults out.new)) }
+    ensures causes { HasCauses (Rose (D.faults disk.old) (D.faults disk.new)) ⊥ ⊥ result.status }
+    ensures not_usage { result.status ≡ Status.Usage → ⊥ }
+    ensures later { O.faults out.old ≤ O.faults out.new }
 {
-    match command {
-        Command::Fetch { key } => fetch(key),
-        Command::Bad => Reply::BadCommand,
-        Command::Unknown => Reply::UnknownCommand,
+    if !database.is_begun {
+        return Ended {
+            status: reply.status(),
+            done: 1,
+        };
+    }
+    match commit(database, disk) {
+        Ok(()) => Ended {
+            status: reply.status(),
+            done: 2,
+        },
+        Err(_) => end(Status::Disk, 1, out),
     }
 }
 
-fn fetch(key: &[u8]) -> Reply
-    ensures { answer_of result ≡ answer (FetchKey key.now) empty None }
+/// Writes the line of the status.
+fn end<O: Sink>(status: Status, done: u128, out: &mut O) -> Ended
+    ensures ended { result ≡ record { status = status; done = done } }
+    ensures line { Writes (line_behind [] (ending_of status)) (O.written out.old) (O.written out.new) (Rose (O.faults out.old) (O.faults out.new)) }
+    ensures later { O.faults out.old ≤ O.faults out.new }
 {
-    match key {
-        [] => Reply::EmptyKey,
-        _ => Reply::NotFound,
+    // A fault of the sink here does not change the status.
+    let _ = out.put(status.line());
+    Ended { status, done }
+}
+
+/// The reply to a command.
+fn answer(alloc: Global, command: Command<'_>, database: &mut Database) -> Result<Reply, FetchFault>
+    requires { database.old.is_begun ≡ false }
+    ensures answers { IfOk result (λ reply. (store : Store) → Keeps database.old store → Answers reply database.new (answer (request_of command.entry) None (opened store))) }
+    ensures corrupt { result ≡ Err FetchFault.Corrupt → (store : Store) → Keeps database.old store → ⊥ }
+{
+    match command {
+        Command::Store { key, value } => store(alloc, key, value, database),
+        Command::Fetch { key } => fetch(alloc, key, database),
+        Command::Bad => Ok(Reply::BadCommand),
+        Command::Unknown => Ok(Reply::UnknownCommand),
     }
+}
+
+fn store(
+    alloc: Global,
+    key: &[u8],
+    value: &[u8],
+    database: &mut Database,
+) -> Result<Reply, FetchFault>
+    requires { database.old.is_begun ≡ false }
+    ensures answers { IfOk result (λ reply. (store : Store) → Keeps database.old store → Answers reply database.new (answer (StoreKey key.now value.now) None (opened store))) }
+    ensures corrupt { result ≡ Err FetchFault.Corrupt → (store : Store) → Keeps database.old store → ⊥ }
+{
+    if key.is_empty() {
+        return Ok(Reply::EmptyKey);
+    }
+    match database.store(alloc, key, value) {
+        Ok(()) => Ok(Reply::Ok),
+        Err(StoreFault::Full) => Ok(Reply::Full),
+        Err(StoreFault::Corrupt) => Err(FetchFault::Corrupt),
+        Err(StoreFault::Memory) => Err(FetchFault::Memory),
+    }
+}
+
+fn fetch(alloc: Global, key: &[u8], database: &mut Database) -> Result<Reply, FetchFault>
+    requires { database.old.is_begun ≡ false }
+    ensures answers { IfOk result (λ reply. (store : Store) → Keeps database.old store → Answers reply database.new (answer (FetchKey key.now) None (opened store))) }
+    ensures corrupt { result ≡ Err FetchFault.Corrupt → (store : Store) → Keeps database.old store → ⊥ }
+{
+    if key.is_empty() {
+        return Ok(Reply::EmptyKey);
+    }
+    match database.fetch(alloc, key) {
+        Ok(Some(data)) => data_reply(alloc, &data),
+        Ok(None) => Ok(Reply::NotFound),
+        Err(fault) => Err(fault),
+    }
+}
+
+/// The reply with these data.
+fn data_reply(alloc: Global, data: &[u8]) -> Result<Reply, FetchFault>
+    ensures line { IfOk result (λ reply. (line : Vec ℕ Global) × (reply ≡ Reply.Data line) × (line.items ≡ line_after None (quoted data.now))) }
+    ensures memory { IfErr result (λ fault. fault ≡ FetchFault.Memory) }
+{
+    match data_line(alloc, data) {
+        Ok(line) => Ok(Reply::Data(line)),
+        Err(_) => Err(FetchFault::Memory),
+    }
+}
+
+/// The line of the data: a JSON string.
+fn data_line(alloc: Global, data: &[u8]) -> Result<Vec<u8>, AllocError>
+    ensures { IfOk result (λ line. line.items ≡ line_after None (quoted data.now)) }
+{
+    let mut line = quote(alloc, data)?;
+    line.push(b'\n')?;
+    Ok(line)
 }

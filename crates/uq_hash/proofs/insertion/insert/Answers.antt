@@ -68,6 +68,12 @@ returns-clause-there g c pages told m held =
     subst (λ (o : Option Slot). IsSomeAnd o (λ s. IsSlot held.cells c.args.key.now s.from s.to (option_copied s.value))) c.in_ok-slot.ensures.ok_part (c.locate.ensures.exact held.cells is (ap (λ h. h.cells) head)) in
     c.is_some.ensures ∙ sym (is_some-copied c.in_ok-slot.slot.value) ∙ ap is_some (sym slot.found ∙ get_held pages c.args.h.now m c.args.key.now held)
 
+pub returns-clause-fields : goal.returns-clause-fields
+returns-clause-fields g c =
+    let counts : Recounts c.args.h.now c.in_ok-sums.sums c.args.key.now c.args.value.now (option_copied c.in_ok-slot.slot.value) =
+    subst (λ (o : Option Header). IfSome o (λ new. Recounts c.args.h.now new c.args.key.now c.args.value.now (option_copied c.in_ok-slot.slot.value))) c.in_ok-sums.ensures.ok_part c.recount.ensures.counts in
+    record { version = counts.version; pages = counts.pages; buckets = counts.buckets; free = counts.free; root = counts.root }
+
 pub returns-clause-page : goal.returns-clause-page
 returns-clause-page g c =
     (bytes_of c.in_ok-new.new, c.in_ok-write_page.ensures.ok ∙ ap (option_map (λ pages. slice_set pages c.args.h.now.root (bytes_of c.in_ok-new.new))) (c.in_ok-page.ensures.same (λ failed. cc)))

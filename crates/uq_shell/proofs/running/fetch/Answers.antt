@@ -1,14 +1,15 @@
-use Rattle.std.proofs.Common.{◌≡◌, ℕ, ◌≤◌, List, [], ◌∷◌, length, None, sym, ap, arith, codes}
-use Rattle.std.specs.Ordering.{nat_cmp}
-use Rattle.std.specs.Cmp.Lexicographic.{slice_cmp}
-use Rattle.std.specs.FinMap.{empty, get-empty}
-use Rattle.uq_shell.specs.Command.{FetchKey, answer, refuses, fetched}
+use Rattle.std.proofs.Common.{◌≡◌, None, sym, subst, ◌∙◌}
+use Rattle.uq_shell.specs.Store.{opened}
+use Rattle.uq_shell.specs.Command.{FetchKey, answer}
+use Rattle.uq_shell.specs.Obeying.{Answers}
+use Rattle.uq_shell.proofs.Files.{if_ok}
+use Rattle.uq_shell.proofs.Served.{answers_fetch}
 use Rattle.uq_shell.proofs.running.fetch.Goals as goal
 
--- no key is in the empty store
-not_found : (key : List ℕ) → 1 ≤ length key → refuses None (codes "not found") ≡ answer (FetchKey key) empty None
-not_found [] some = absurd (omega arith)
-not_found (byte ∷ bytes) some = sym (ap (fetched None) (get-empty (slice_cmp nat_cmp) (byte ∷ bytes)))
+pub returns-in-Ok-Some-clause-answers : goal.returns-in-Ok-Some-clause-answers
+returns-in-Ok-Some-clause-answers c = if_ok c.data_reply.result _ _ (λ reply line store keeps.
+    subst (λ r. Answers r c.fetch.new.self (answer (FetchKey c.args.key.now) None (opened store))) (sym line.1)
+    (answers_fetch c.args.key.now c.in-Ok-Some.data.items store c.fetch.new.self line.0 c.if-is_empty.ensures (rw c.in-Ok-Some.field-0-is at (c.in-Ok-Some.ensures.found store keeps)) (rw c.deref.ensures.value at line.2) (c.fetch.ensures.begun ∙ c.requires) (c.in-Ok-Some.ensures.keeps store keeps))) c.data_reply.ensures.line
 
-pub returns-in_default : goal.returns-in_default
-returns-in_default c = not_found c.args.key.now c.in_default.len_at_least
+pub returns-in-Err-clause-corrupt : goal.returns-in-Err-clause-corrupt
+returns-in-Err-clause-corrupt c is store keeps = c.fetch.ensures.corrupt (cc) store keeps

@@ -1,0 +1,34 @@
+use Rattle.std.proofs.Common.{◌≡◌, ◌≤◌, Option, Err, List, ℕ, length, refl, sym, ap, subst, ◌∙◌, arith}
+use Rattle.std.proofs.lemmas.Result.{err_from_is_err_and}
+use Rattle.std.specs.FinMap.{insert}
+use Rattle.std.specs.Option.{option_copied, IsSomeAnd}
+use Rattle.uq_page.specs.Page.{bytes_of}
+use Rattle.uq_hash.specs.declared.slot.Slot.{Slot}
+use Rattle.uq_hash.specs.Map.{IsBucket, cells_len, head_of}
+use Rattle.uq_hash.specs.Slot.{IsSlot}
+use Rattle.uq_hash.proofs.CauseLemmas.{handed_on, corrupted}
+use Rattle.uq_hash.proofs.MapLemmas.{read_bucket_is, some_same}
+use Rattle.uq_hash.proofs.RoomLemmas.{room_after, shifted, small_sums}
+use Rattle.uq_hash.proofs.room.fits.Goals as goal
+use Rattle.uq_hash.proofs.room.fits.Goals.{then-h-gt-PAGE-via-then-h-gt-PAGE, then-h-gt-PAGE-via-else-h-gt-PAGE+then-h-gt-PAGE-2}
+
+pub returns-in_err-page-clause-cause : goal.returns-in_err-page-clause-cause
+returns-in_err-page-clause-cause g c =
+    let fault = err_from_is_err_and c.from_residual.result c.from_residual.ensures.1 in
+    handed_on (g.P.Pages.pages c.args.p.now) c.args.h.now (g.P.Pages.faults c.args.p.now) (g.P.Pages.faults c.read_root.new.p) (g.P.Pages.is_sound c.read_root.new.p)
+    c.in_err-page.field-0.0 c.from_residual.result (fault.1 ∙ ap Err fault.2) c.in_err-page.ensures.cause
+
+pub returns-then-h-gt-PAGE-clause-cause : goal.returns-then-h-gt-PAGE-clause-cause
+returns-then-h-gt-PAGE-clause-cause g c =
+    corrupted (g.P.Pages.pages c.args.p.now) c.args.h.now (g.P.Pages.faults c.args.p.now) (g.P.Pages.faults c.read_root.new.p) (g.P.Pages.is_sound c.read_root.new.p)
+    _ refl c.in_ok-page.ensures.cause.later (c.in_ok-page.ensures.cause.sound (λ failed. cc))
+    (λ pages told m held. let small = small_sums pages c.args.h.now m held in elim c.then-h-gt-PAGE.branch [ then-h-gt-PAGE-via-then-h-gt-PAGE w ↦ omega (arith, small) | then-h-gt-PAGE-via-else-h-gt-PAGE+then-h-gt-PAGE-2 w ↦ omega (arith, small) ])
+
+pub returns-clause-fits : goal.returns-clause-fits
+returns-clause-fits g c pages told m held =
+    let is : IsBucket (bytes_of c.in_ok-page.page) held.cells = read_bucket_is pages c.args.h.now m (bytes_of c.in_ok-page.page) held (c.in_ok-page.ensures.page pages told) in
+    let head : c.in_ok-head.head ≡ head_of held.cells = some_same (sym c.in_ok-head.ensures.ok_part ∙ c.read_head.ensures.exact held.cells is) in
+    let slot : IsSlot held.cells c.args.key.now c.in_ok-slot.slot.from c.in_ok-slot.slot.to (option_copied c.in_ok-slot.slot.value) =
+    subst (λ (o : Option Slot). IsSomeAnd o (λ s. IsSlot held.cells c.args.key.now s.from s.to (option_copied s.value))) c.in_ok-slot.ensures.ok_part (c.locate.ensures.exact held.cells is (ap (λ h. h.cells) head)) in
+    let room = room_after pages c.args.h.now m c.args.key.now c.args.value.now c.in_ok-slot.slot.from c.in_ok-slot.slot.to (option_copied c.in_ok-slot.slot.value) c.in_ok-head.head held slot head in
+    shifted _ _ (cells_len (insert m c.args.key.now c.args.value.now)) (omega (arith, room))

@@ -1,0 +1,35 @@
+//! The commit of a database to its disk.
+ghost use Rattle.std.specs.Prelude.{◌≡◌, length, OnOk};
+ghost use Rattle.std.specs.Option.{option_map};
+ghost use Rattle.uq_page.specs.Page.{bytes_of};
+ghost use Rattle.uq_outside.specs.Causes.{HasCause};
+ghost use Rattle.uq_shell.specs.Store.{Store};
+ghost use Rattle.uq_shell.specs.Database.{Holds};
+ghost use Rattle.uq_shell.specs.Keeps.{Keeps, with_pages};
+
+use crate::database::Database;
+use uq_outside::{Disk, DiskFault, FileNo};
+use uq_page::Page;
+
+/// Writes the pages over the main file, and syncs it.
+pub fn commit<D: Disk>(database: &Database, disk: &mut D) -> Result<(), DiskFault>
+    ensures holds { OnOk result ((entry store : Store) → Holds D.Disk disk.old entry → Keeps database.now store → Holds D.Disk disk.new store) }
+    ensures cause { HasCause (D.faults disk.old) (D.faults disk.new) result }
+{
+    let [head, bucket] = database.pages.pages() else {
+        unreachable!();
+    };
+    write_pages(head, bucket, disk)?;
+    disk.sync(FileNo::Main)
+}
+
+/// Writes a header's page and a bucket over the main file.
+fn write_pages<D: Disk>(head: &Page, bucket: &Page, disk: &mut D) -> Result<(), DiskFault>
+    ensures written { OnOk result (D.content disk.new ≡ option_map (with_pages (bytes_of head.now) (bytes_of bucket.now)) (D.content disk.old)) }
+    ensures head_size { OnOk result (length (bytes_of head.now) ≡ 4096) }
+    ensures bucket_size { OnOk result (length (bytes_of bucket.now) ≡ 4096) }
+    ensures cause { HasCause (D.faults disk.old) (D.faults disk.new) result }
+{
+    disk.write_at(FileNo::Main, 0, head.bytes())?;
+    disk.write_at(FileNo::Main, 4096, bucket.bytes())
+}
