@@ -1,5 +1,5 @@
 -- When the files of a disk are a database of a store.
-use Rattle.std.specs.Prelude.{◌≡◌, ◌⊎◌, ℕ, List, [], ◌∷◌, ◌++◌, length, map, Some}
+use Rattle.std.specs.Prelude.{◌≡◌, ◌⊎◌, ℕ, List, [], ◌∷◌, ◌++◌, length, take, map, Some}
 use Rattle.std.specs.Option.{ForSome}
 use Rattle.std.specs.FinMap.{empty, entries}
 use Rattle.uq_outside.specs.declared.disk.Disk.{Ghosts}
@@ -59,3 +59,19 @@ pub record Holds {D : Type 0} (g : Ghosts D) (disk : D) (store : Store) : Type 0
 -- The disk tells no content, or its content is a database of no store.
 abbrev pub HoldsNone : {D : Type 0} → Ghosts D → D → Type 0
 HoldsNone g disk = ForSome (g.content disk) (λ files. (store : Store) → HoldsStore store files → ⊥)
+
+-- a page of a header that counts two pages
+pub record IsHeaderOfTwo (page : List ℕ) : Type 0 where
+  pub header : Header
+  pub reads : IsHeader page header
+  pub names : header.pages ≡ 2
+
+-- a main file of two pages, of which the first is a header that names their number
+pub record HasHeader (main : List ℕ) : Type 0 where
+  pub size : length main ≡ 8192
+  pub first : IsHeaderOfTwo (take 4096 main)
+
+-- The files have the shape of a database: there is no journal, and the main file is empty or has a header.
+pub record HaveShape (files : Files) : Type 0 where
+  pub no_journal : length files.journal ≡ 0
+  pub main : (length files.main ≡ 0) ⊎ HasHeader files.main

@@ -1,5 +1,6 @@
 -- What was written after the first n events of a run, and an ending.
-use Rattle.std.specs.Prelude.{◌≡◌, ◌⊎◌, ℕ, List, [], ◌∷◌, ◌++◌, take, codes, slice_get, Some}
+use Rattle.std.specs.Prelude.{◌≡◌, ◌⊎◌, ℕ, Bool, true, false, IsTrue, List, [], ◌∷◌, ◌++◌, take, codes, slice_get, Option, Some}
+use Rattle.uq_outside.specs.Streams.{Grows}
 use Rattle.uq_shell.specs.Line.{last_byte, line_after}
 use Rattle.uq_shell.specs.Command.{Event, Out}
 use Rattle.uq_shell.specs.Run.{output}
@@ -15,6 +16,16 @@ ending_of Memory = codes "out of memory"
 ending_of Disk = codes "disk failed"
 ending_of Stream = []
 ending_of NotDatabase = codes "not a database"
+
+-- no command was obeyed
+abbrev pub is_unanswered : Status → Bool
+is_unanswered Usage = true
+is_unanswered NotDatabase = true
+is_unanswered Done = false
+is_unanswered Refused = false
+is_unanswered Memory = false
+is_unanswered Disk = false
+is_unanswered Stream = false
 
 -- the line of this text behind what was written, where there is a text
 abbrev pub line_behind : List ℕ → List ℕ → List ℕ
@@ -38,3 +49,11 @@ pub record IsCutBehind (events : List Event) (n : ℕ) (status : Status) (bytes 
 pub record FollowedBytes (events : List Event) (n : ℕ) (status : Status) (sink_rose : Type 0) (bytes : List ℕ) : Type 0 where
   pub whole : (sink_rose → ⊥) → bytes ≡ output n events ++ line_behind (output n events) (ending_of status)
   pub cut : sink_rose → IsCutWithin events n status bytes ⊎ IsCutBehind events n status bytes
+
+-- Behind what the commands wrote stands the line of the status, or, where the sink failed, a prefix of it.
+pub record EndsInLine (status : Status) (sink_rose : Type 0) (before now : Option (List ℕ)) : Type 0 where
+  pub replies : List ℕ
+  pub count : ℕ
+  pub grows : Grows (replies ++ take count (line_behind replies (ending_of status))) before now
+  pub whole : (sink_rose → ⊥) → take count (line_behind replies (ending_of status)) ≡ line_behind replies (ending_of status)
+  pub no_reply : IsTrue (is_unanswered status) → replies ≡ []

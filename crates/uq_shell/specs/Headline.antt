@@ -25,15 +25,15 @@ pub record HasCauses (disk_rose stream_rose holds_none : Type 0) (status : Statu
   pub stream : status ≡ Stream → stream_rose
   pub not_database : status ≡ NotDatabase → holds_none
 
--- a reply was written, or the sink failed
-abbrev pub IsAnswered : Type 0 → Status → Type 0
-IsAnswered sink_rose Done = Unit {0}
-IsAnswered sink_rose Refused = Unit {0}
-IsAnswered sink_rose Stream = sink_rose
-IsAnswered sink_rose Usage = ⊥
-IsAnswered sink_rose Memory = ⊥
-IsAnswered sink_rose Disk = ⊥
-IsAnswered sink_rose NotDatabase = ⊥
+-- a command was obeyed
+abbrev pub is_answered : Status → Bool
+is_answered Done = true
+is_answered Refused = true
+is_answered Stream = true
+is_answered Usage = false
+is_answered Memory = false
+is_answered Disk = false
+is_answered NotDatabase = false
 
 -- A run over a disk that holds a store writes what its meaning writes and ends as its meaning ends, or is cut short.
 pub record Meets (run : Outcome) (ended : Ended) (sink_rose : Type 0) (written_before written_now : Option (List ℕ)) : Type 0 where

@@ -14,10 +14,13 @@ use Rattle.uq_shell.specs.declared.ended.Ended.{Ended}
 use Rattle.uq_shell.specs.declared.reply.Reply.{Reply}
 use Rattle.uq_shell.specs.declared.status.Status.TheVariants.{Disk}
 
+-- the reply is a line
+abbrev pub IsLine : Reply → Type 0
+IsLine reply = last_byte (line_of reply) ≡ Some 0x0a
+
 -- the reply and the database after it are those of the answer
 pub record Answers (reply : Reply) (database : Database) (answer : Answer) : Type 0 where
   pub line : answer.events ≡ Out (line_of reply) ∷ []
-  pub fresh : last_byte (line_of reply) ≡ Some 0x0a
   pub refusal : is_refused reply ≡ answer.is_refusal
   pub begun : database.is_begun ≡ answer.session.begun
   pub keeps : Keeps database answer.session.present

@@ -1,5 +1,5 @@
 //! The database of a disk, taken into memory.
-ghost use Rattle.std.specs.Prelude.{◌≡◌, ◌+◌, ◌≤◌, ◌∷◌, [], ℕ, true, false, length, take, drop, IfOk, IfErr, IfSome, Err};
+ghost use Rattle.std.specs.Prelude.{◌≡◌, ◌+◌, ◌≤◌, ◌∷◌, [], ℕ, true, false, length, take, drop, OnOk, IfOk, IfErr, IfSome, Err};
 ghost use Rattle.std.specs.Option.{ForSome};
 ghost use Rattle.std.specs.FinMap.{empty};
 ghost use Rattle.uq_outside.specs.Causes.{Rose, HasCause};
@@ -7,7 +7,7 @@ ghost use Rattle.uq_page.specs.Page.{bytes_of};
 ghost use Rattle.uq_page.specs.MemPages.{pages_in, fails_in, is_sound_now};
 ghost use Rattle.uq_page.specs.declared.header.Header.{Header};
 ghost use Rattle.uq_shell.specs.Store.{Store};
-ghost use Rattle.uq_shell.specs.Database.{Holds, HoldsNone, HoldEntries};
+ghost use Rattle.uq_shell.specs.Database.{Holds, HoldsNone, HoldEntries, HaveShape, HasHeader, IsHeaderOfTwo};
 ghost use Rattle.uq_shell.specs.Keeps.{Keeps};
 
 use crate::database::Database;
@@ -24,6 +24,7 @@ const PAGE: u64 = 4096;
 pub fn open<D: Disk>(alloc: Global, disk: &mut D, name: &str) -> Result<Database, OpenFault>
     ensures same { D.content disk.new ≡ D.content disk.old }
     ensures keeps { IfOk result (λ database. (store : Store) → Holds D.Disk disk.old store → Keeps database store) }
+    ensures shape { OnOk result (ForSome (D.content disk.old) HaveShape) }
     ensures begun { IfOk result (λ database. database.is_begun ≡ false) }
     ensures later { D.faults disk.old ≤ D.faults disk.new }
     ensures failed { result ≡ Err OpenFault.Disk → Rose (D.faults disk.old) (D.faults disk.new) }
@@ -69,6 +70,7 @@ fn take_in<D: Disk>(alloc: Global, disk: &mut D) -> Result<Database, OpenFault>
     requires { ForSome (D.content disk.old) (λ files. length files.main ≡ 8192) }
     ensures same { D.content disk.new ≡ D.content disk.old }
     ensures keeps { IfOk result (λ database. (store : Store) → Holds D.Disk disk.old store → Keeps database store) }
+    ensures shape { OnOk result (ForSome (D.content disk.old) (λ files. HasHeader files.main)) }
     ensures begun { IfOk result (λ database. database.is_begun ≡ false) }
     ensures later { D.faults disk.old ≤ D.faults disk.new }
     ensures failed { result ≡ Err OpenFault.Disk → Rose (D.faults disk.old) (D.faults disk.new) }
@@ -83,12 +85,16 @@ fn take_in<D: Disk>(alloc: Global, disk: &mut D) -> Result<Database, OpenFault>
 fn with_pages(alloc: Global, head: &Page, bucket: &Page) -> Result<Database, OpenFault>
     ensures keeps { IfOk result (λ database. (store : Store) (header : Header) → HoldEntries store header (bytes_of head.now) (bytes_of bucket.now) → Keeps database store) }
     ensures begun { IfOk result (λ database. database.is_begun ≡ false) }
+    ensures header { OnOk result (IsHeaderOfTwo (bytes_of head.now)) }
     ensures disk { result ≡ Err OpenFault.Disk → ⊥ }
     ensures not_database { result ≡ Err OpenFault.NotDatabase → (store : Store) (header : Header) → HoldEntries store header (bytes_of head.now) (bytes_of bucket.now) → ⊥ }
 {
     let Some(header) = read_header(head) else {
         return Err(OpenFault::NotDatabase);
     };
+    if header.pages != 2 {
+        return Err(OpenFault::NotDatabase);
+    }
     match pages_of(alloc, head, bucket) {
         Some(pages) => Ok(Database {
             pages,

@@ -1,17 +1,18 @@
 //! A run of the program, from its words to its exit status.
 ghost use Rattle.std.specs.Prelude.{◌≡◌, ◌⊎◌, ◌↔◌, ◌≤◌, ℕ, true, false, List, [], ◌∷◌, length, map, take, string_bytes, IsTrue, IfOk, IfErr, Err, Option, None, Vec};
+ghost use Rattle.std.specs.Option.{ForSome};
 ghost use Rattle.uq_outside.specs.Causes.{Rose};
 ghost use Rattle.uq_shell.specs.Store.{Store, opened};
-ghost use Rattle.uq_shell.specs.Database.{Holds, HoldsNone};
+ghost use Rattle.uq_shell.specs.Database.{Holds, HoldsNone, HaveShape};
 ghost use Rattle.uq_shell.specs.Keeps.{Keeps};
 ghost use Rattle.uq_shell.specs.Command.{Answer, StoreKey, FetchKey, answer};
 ghost use Rattle.uq_shell.specs.Request.{request_of};
 ghost use Rattle.uq_shell.specs.Run.{run_of, is_usage, obeyed, last_commit};
-ghost use Rattle.uq_shell.specs.Followed.{ending_of, line_behind};
-ghost use Rattle.uq_shell.specs.Headline.{HasCauses, Meets, IsComplete, IsCommitUnderWay};
+ghost use Rattle.uq_shell.specs.Followed.{EndsInLine, ending_of, line_behind};
+ghost use Rattle.uq_shell.specs.Headline.{HasCauses, is_answered, Meets, IsComplete, IsCommitUnderWay};
 ghost use Rattle.uq_shell.specs.Line.{line_after};
 ghost use Rattle.uq_shell.specs.Quote.{quoted};
-ghost use Rattle.uq_shell.specs.Obeying.{Answers, Obeys, Settles};
+ghost use Rattle.uq_shell.specs.Obeying.{Answers, IsLine, Obeys, Settles};
 ghost use Rattle.uq_shell.specs.Written.{Writes};
 
 use crate::command::{Command, lacks_form, read_command};
@@ -38,6 +39,9 @@ pub fn run<D: Disk, I: Source, O: Sink>(
     ensures usage { (result.status ≡ Status.Usage) ↔ IsTrue (is_usage (map string_bytes words.now)) }
     ensures untouched { result.status ≡ Status.Usage → disk.new ≡ disk.old }
     ensures unread { input.new ≡ input.old }
+    ensures counts { (D.faults disk.old ≤ D.faults disk.new) × (O.faults out.old ≤ O.faults out.new) }
+    ensures shape { IsTrue (is_answered result.status) → ForSome (D.content disk.old) HaveShape }
+    ensures line { EndsInLine result.status (Rose (O.faults out.old) (O.faults out.new)) (O.written out.old) (O.written out.new) }
 
     // Over a disk that holds a store.
     ensures headline { (store : Store) → Holds D.Disk disk.old store → Meets (run_of (map string_bytes words.now) store) result (Rose (O.faults out.old) (O.faults out.new)) (O.written out.old) (O.written out.new) }
@@ -66,6 +70,8 @@ fn obey<D: Disk, O: Sink>(
     requires { database.is_begun ≡ false }
     ensures obeys { (store : Store) → Keeps database store → Holds D.Disk disk.old store → Obeys D.Disk store (obeyed (answer (request_of command.entry) None (opened store))) disk.new result (Rose (O.faults out.old) (O.faults out.new)) (O.written out.old) (O.written out.new) }
     ensures causes { HasCauses (Rose (D.faults disk.old) (D.faults disk.new)) (Rose (O.faults out.old) (O.faults out.new)) ((store : Store) → Keeps database store → ⊥) result.status }
+    ensures line { EndsInLine result.status (Rose (O.faults out.old) (O.faults out.new)) (O.written out.old) (O.written out.new) }
+    ensures counts { (D.faults disk.old ≤ D.faults disk.new) × (O.faults out.old ≤ O.faults out.new) }
     ensures not_usage { result.status ≡ Status.Usage → ⊥ }
     ensures complete { (store : Store) → Keeps database store → (Rose (D.faults disk.old) (D.faults disk.new) → ⊥) → (Rose (O.faults out.old) (O.faults out.new) → ⊥) → IsComplete (obeyed (answer (request_of command.entry) None (opened store))) result.status }
 {
@@ -78,8 +84,11 @@ fn obey<D: Disk, O: Sink>(
 
 /// Puts out the reply, and commits what is begun.
 fn serve<D: Disk, O: Sink>(reply: &Reply, database: &Database, disk: &mut D, out: &mut O) -> Ended
+    requires { IsLine reply.now }
     ensures obeys { (meant : Answer) (entry : Store) → Answers reply.now database.now meant → Holds D.Disk disk.old entry → Obeys D.Disk entry (obeyed meant) disk.new result (Rose (O.faults out.old) (O.faults out.new)) (O.written out.old) (O.written out.new) }
     ensures causes { HasCauses (Rose (D.faults disk.old) (D.faults disk.new)) (Rose (O.faults out.old) (O.faults out.new)) ⊥ result.status }
+    ensures line { EndsInLine result.status (Rose (O.faults out.old) (O.faults out.new)) (O.written out.old) (O.written out.new) }
+    ensures counts { (D.faults disk.old ≤ D.faults disk.new) × (O.faults out.old ≤ O.faults out.new) }
     ensures not_usage { result.status ≡ Status.Usage → ⊥ }
     ensures complete { (meant : Answer) → Answers reply.now database.now meant → (Rose (D.faults disk.old) (D.faults disk.new) → ⊥) → (Rose (O.faults out.old) (O.faults out.new) → ⊥) → result.status ≡ (obeyed meant).status }
 {
@@ -99,7 +108,7 @@ fn settle<D: Disk, O: Sink>(reply: &Reply, database: &Database, disk: &mut D, ou
     ensures line { Writes (line_behind [] (ending_of result.status)) (O.written out.old) (O.written out.new) (Rose (O.faults out.old) (O.faults out.new)) }
     ensures causes { HasCauses (Rose (D.faults disk.old) (D.faults disk.new)) ⊥ ⊥ result.status }
     ensures not_usage { result.status ≡ Status.Usage → ⊥ }
-    ensures later { O.faults out.old ≤ O.faults out.new }
+    ensures counts { (D.faults disk.old ≤ D.faults disk.new) × (O.faults out.old ≤ O.faults out.new) }
 {
     if !database.is_begun {
         return Ended {
@@ -131,6 +140,7 @@ fn end<O: Sink>(status: Status, done: u128, out: &mut O) -> Ended
 fn answer(alloc: Global, command: Command<'_>, database: &mut Database) -> Result<Reply, FetchFault>
     requires { database.old.is_begun ≡ false }
     ensures answers { IfOk result (λ reply. (store : Store) → Keeps database.old store → Answers reply database.new (answer (request_of command.entry) None (opened store))) }
+    ensures line { IfOk result IsLine }
     ensures corrupt { result ≡ Err FetchFault.Corrupt → (store : Store) → Keeps database.old store → ⊥ }
 {
     match command {
@@ -149,6 +159,7 @@ fn store(
 ) -> Result<Reply, FetchFault>
     requires { database.old.is_begun ≡ false }
     ensures answers { IfOk result (λ reply. (store : Store) → Keeps database.old store → Answers reply database.new (answer (StoreKey key.now value.now) None (opened store))) }
+    ensures line { IfOk result IsLine }
     ensures corrupt { result ≡ Err FetchFault.Corrupt → (store : Store) → Keeps database.old store → ⊥ }
 {
     if key.is_empty() {
@@ -165,6 +176,7 @@ fn store(
 fn fetch(alloc: Global, key: &[u8], database: &mut Database) -> Result<Reply, FetchFault>
     requires { database.old.is_begun ≡ false }
     ensures answers { IfOk result (λ reply. (store : Store) → Keeps database.old store → Answers reply database.new (answer (FetchKey key.now) None (opened store))) }
+    ensures line { IfOk result IsLine }
     ensures corrupt { result ≡ Err FetchFault.Corrupt → (store : Store) → Keeps database.old store → ⊥ }
 {
     if key.is_empty() {

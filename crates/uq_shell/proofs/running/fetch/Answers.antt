@@ -3,7 +3,7 @@ use Rattle.uq_shell.specs.Store.{opened}
 use Rattle.uq_shell.specs.Command.{FetchKey, answer}
 use Rattle.uq_shell.specs.Obeying.{Answers}
 use Rattle.uq_shell.proofs.Files.{if_ok}
-use Rattle.uq_shell.proofs.Served.{answers_fetch}
+use Rattle.uq_shell.proofs.Served.{answers_fetch, data_line_ends}
 use Rattle.uq_shell.proofs.running.fetch.Goals as goal
 
 pub returns-in-Ok-Some-clause-answers : goal.returns-in-Ok-Some-clause-answers
@@ -13,3 +13,6 @@ returns-in-Ok-Some-clause-answers c = if_ok c.data_reply.result _ _ (λ reply li
 
 pub returns-in-Err-clause-corrupt : goal.returns-in-Err-clause-corrupt
 returns-in-Err-clause-corrupt c is store keeps = c.fetch.ensures.corrupt (cc) store keeps
+
+pub returns-in-Ok-Some-clause-line : goal.returns-in-Ok-Some-clause-line
+returns-in-Ok-Some-clause-line c = if_ok c.data_reply.result _ _ (λ reply line. data_line_ends reply line.0 c.deref.result.now line.1 line.2) c.data_reply.ensures.line

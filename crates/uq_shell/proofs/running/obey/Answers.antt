@@ -3,8 +3,9 @@ use Rattle.uq_shell.specs.Store.{opened}
 use Rattle.uq_shell.specs.Command.{answer}
 use Rattle.uq_shell.specs.Request.{request_of}
 use Rattle.uq_shell.specs.Run.{obeyed}
-use Rattle.uq_shell.specs.declared.status.Status.TheVariants.{Memory}
+use Rattle.uq_shell.specs.declared.status.Status.TheVariants.{Memory, NotDatabase}
 use Rattle.uq_shell.proofs.Endings.{meets_ended}
+use Rattle.uq_shell.proofs.Served.{ends_first}
 use Rattle.uq_shell.proofs.running.obey.Goals as goal
 
 pub returns-in-Ok-clause-obeys : goal.returns-in-Ok-clause-obeys
@@ -26,3 +27,9 @@ returns-clause-obeys g c store keeps holds =
       meets = meets_ended (obeyed (answer (request_of c.args.command) None (opened store))) Memory _ _ _ c.end-in-Err-Memory.ensures.line (λ whole. cc) (λ is. cc);
       stored = λ none. holds;
     })
+
+pub returns-in-Err-Corrupt-clause-line : goal.returns-in-Err-Corrupt-clause-line
+returns-in-Err-Corrupt-clause-line g c = rw c.end.ensures.ended (ends_first NotDatabase _ _ _ c.end.ensures.line)
+
+pub returns-clause-line : goal.returns-clause-line
+returns-clause-line g c = rw c.end-in-Err-Memory.ensures.ended (ends_first Memory _ _ _ c.end-in-Err-Memory.ensures.line)

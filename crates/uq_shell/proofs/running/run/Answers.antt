@@ -5,7 +5,7 @@ use Rattle.uq_shell.specs.Run.{run_of}
 use Rattle.uq_shell.specs.declared.status.Status.TheVariants.{Usage, Disk, NotDatabase, Memory}
 use Rattle.uq_shell.proofs.Endings.{meets_ended}
 use Rattle.uq_shell.proofs.Entry.{still_holds}
-use Rattle.uq_shell.proofs.Served.{rose_later}
+use Rattle.uq_shell.proofs.Served.{ends_first, rose_later}
 use Rattle.uq_shell.proofs.Words.{asked-rest, run_of-usage, run_of-obeyed}
 use Rattle.uq_shell.proofs.running.run.Goals as goal
 
@@ -45,3 +45,15 @@ returns-in-Ok-clause-causes g c = record {
 
 pub returns-in-Err-NotDatabase-clause-complete : goal.returns-in-Err-NotDatabase-clause-complete
 returns-in-Err-NotDatabase-clause-complete g c store holds = absurd (c.open.ensures.not_database (cc) holds.files holds.told store holds.stored)
+
+pub returns-then-lacks_form-clause-line : goal.returns-then-lacks_form-clause-line
+returns-then-lacks_form-clause-line g c = rw c.end.ensures.ended (ends_first Usage _ _ _ c.end.ensures.line)
+
+pub returns-in-Err-Disk-clause-line : goal.returns-in-Err-Disk-clause-line
+returns-in-Err-Disk-clause-line g c = rw c.end-in-Err-Disk.ensures.ended (ends_first Disk _ _ _ c.end-in-Err-Disk.ensures.line)
+
+pub returns-in-Err-NotDatabase-clause-line : goal.returns-in-Err-NotDatabase-clause-line
+returns-in-Err-NotDatabase-clause-line g c = rw c.end-in-Err-NotDatabase.ensures.ended (ends_first NotDatabase _ _ _ c.end-in-Err-NotDatabase.ensures.line)
+
+pub returns-in-Err-Memory-clause-line : goal.returns-in-Err-Memory-clause-line
+returns-in-Err-Memory-clause-line g c = rw c.end-in-Err-Memory.ensures.ended (ends_first Memory _ _ _ c.end-in-Err-Memory.ensures.line)
