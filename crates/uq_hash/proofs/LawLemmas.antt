@@ -1,10 +1,11 @@
 -- The laws of the layout.
-use Rattle.std.proofs.Common.{◌≡◌, ℕ, ◌+◌, ◌*◌, ◌≤◌, true, cond, List, [], ◌∷◌, ◌++◌, length, take, drop, Option, Some, None, refl, sym, ap, ◌∙◌, arith, append_assoc}
-use Rattle.std.specs.Prelude.{sum_by, slice_set}
-use Rattle.std.specs.Ordering.{nat_cmp, is_eq}
+use Rattle.std.proofs.Common.{◌≡◌, ℕ, ◌+◌, ◌-◌, ◌*◌, ◌<◌, ◌≤◌, ◌^◌, true, cond, T, List, [], ◌∷◌, ◌++◌, length, take, drop, Option, Some, None, refl, sym, ap, subst, ◌∙◌, arith, append_assoc}
+use Rattle.std.specs.Prelude.{sum_by, slice_get, slice_set}
+use Rattle.std.specs.Ordering.{nat_cmp, is_eq, is_lt}
+use Rattle.std.specs.Cmp.{IsTotalOrder}
 use Rattle.std.specs.Cmp.Lexicographic.{slice_cmp, nat_list_cmp_total}
 use Rattle.std.specs.FinMap.{get, insert, len, entries, from_entries, entries_sorted, get-entries, entries-insert, len-entries}
-use Rattle.std.specs.FinMap.Entries.{put, find, by_order, is_sorted}
+use Rattle.std.specs.FinMap.Entries.{put, find, by_order, below_all, is_sorted}
 use Rattle.std.specs.declared.cmp.Ordering.TheVariants.{Less, Equal, Greater}
 use Rattle.std.proofs.lemmas.List.{take_at, drop_at, length-set, get_or-set_other}
 use Rattle.std.proofs.lemmas.List.Sums.{sum_by-cons}
@@ -14,6 +15,7 @@ use Rattle.uq_page.specs.Bucket.{bucket_fields}
 use Rattle.uq_page.specs.BucketLaws.{same_cells as same_head}
 use Rattle.uq_page.specs.Cell.{cell_lengths}
 use Rattle.uq_page.specs.CellLaws.{cell_lengths_inj, length-cell_lengths}
+use Rattle.uq_page.specs.Page.{zeros}
 use Rattle.uq_hash.specs.Map.{Map, Entry, HoldsMap, bucket_page, bytes_in, cell, cell_len, cells_len, cells_of, entry_len, head_of}
 use Rattle.uq_hash.specs.Slot.{entry_of}
 use Rattle.uq_hash.proofs.EntryLemmas.{drop-bucket_page, few_cells, length-cells_of-cons, take-bucket_page}

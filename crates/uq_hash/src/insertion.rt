@@ -15,8 +15,7 @@ use uq_page::{ChainFault, Header, Pages};
 /// Gives the key this value, and answers whether the key was there.
 ///
 /// Where the pages hold a map with `h`, they hold with the new `h` the map with this one change. After a
-/// refusal nothing is said of the pages and of `h`. It takes no memory, since each value stands in its
-/// cell.
+/// refusal nothing is said of the pages and of `h`.
 pub fn insert<P: Pages>(
     _alloc: Global,
     p: &mut P,

@@ -11,6 +11,8 @@ mod quoting;
 mod reply;
 mod running;
 mod status;
+#[cfg(test)]
+mod tests;
 
 pub use ended::Ended;
 pub use running::run;
