@@ -1,0 +1,14 @@
+pub mod Data
+pub mod Size
+pub mod Depth
+pub mod Codes
+pub mod Plain
+pub mod Kept
+pub mod Falls
+pub mod Truth
+pub mod Number
+pub mod Reading
+pub mod Same
+pub mod Order
+pub mod Put
+pub mod Faults

@@ -1,0 +1,24 @@
+//! Values of the script language and the store: null, booleans, whole numbers, texts, lists and objects.
+#![tactic(auto)]
+
+mod comparing;
+mod copying;
+mod error;
+mod list;
+mod measuring;
+mod object;
+mod reading;
+mod step;
+mod text;
+mod value;
+
+pub use comparing::truth;
+pub use copying::copy;
+pub use error::{NoMemory, ValueFault};
+pub use list::List;
+pub use measuring::{depth, size, within_limits};
+pub use object::{Member, Object};
+pub use reading::{get_index, get_member};
+pub use step::Step;
+pub use text::Text;
+pub use value::Value;
