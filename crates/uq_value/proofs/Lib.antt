@@ -1,2 +1,4 @@
 pub mod Levels
 pub mod Leb
+pub mod Digits
+pub mod Equality

@@ -1,5 +1,6 @@
 -- The two equalities.
-use Rattle.std.specs.Prelude.{Bool, true, false, not, ◌&&◌, ◌||◌, if◌then◌else◌, ℤ, int_le, Option, Some, None}
+use Rattle.std.specs.Prelude.{Bool, true, false, not, ◌&&◌, ◌||◌, if◌then◌else◌, ℤ, Option, Some, None}
+use Rattle.std.specs.Ordering.{int_eq}
 use Rattle.std.specs.Str.{bytes_eq}
 use Rattle.uq_value.specs.Data.{Data, null, boolean, whole, text, sequence, mapping, Items, no_items, item, Members, no_members, member}
 use Rattle.uq_value.specs.Plain.{plain}
@@ -11,15 +12,12 @@ use Rattle.uq_value.specs.declared.value.Value.TheVariants.{Null, Bool as Bool',
 abbrev pub alike : Bool → Bool → Bool
 alike a b = if a then b else not b
 
-abbrev pub equal : ℤ → ℤ → Bool
-equal a b = int_le a b && int_le b a
-
 -- the same kind and content, members in the same order
 abbrev mutual
   pub data_same : Data → Data → Bool
   data_same null null = true
   data_same (boolean a) (boolean b) = alike a b
-  data_same (whole a) (whole b) = equal a b
+  data_same (whole a) (whole b) = int_eq a b
   data_same (text a) (text b) = bytes_eq a b
   data_same (sequence ds) (sequence es) = items_same ds es
   data_same (mapping ms) (mapping ns) = members_same ms ns
@@ -55,7 +53,7 @@ is_null_or_boolean _ = false
 
 abbrev pub has_number : Option ℤ → ℤ → Bool
 has_number None b = false
-has_number (Some a) b = equal a b
+has_number (Some a) b = int_eq a b
 
 -- a number and a text, where the text's number is that number
 abbrev pub same_number : Value → Value → Bool

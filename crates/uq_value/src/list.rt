@@ -4,8 +4,10 @@ ghost use Rattle.uq_value.specs.Size.{data_size, most_size};
 ghost use Rattle.uq_value.specs.Depth.{data_depth, most_depth};
 ghost use Rattle.uq_value.specs.Plain.{items as spec_items};
 ghost use Rattle.uq_value.specs.Truth.{is_empty as spec_is_empty};
+ghost use Rattle.uq_value.specs.Same.{data_same};
 ghost use Rattle.uq_value.specs.Reading.{item_at as spec_item_at};
 
+use crate::comparing::alike;
 use crate::copying::copy;
 use crate::error::NoMemory;
 use crate::value::Value;
@@ -82,6 +84,22 @@ impl List {
             return None;
         }
         self.item(at as usize)
+    }
+
+    /// Whether the two have the same items in the same order.
+    #[cycle(alike)]
+    pub(crate) fn alike(&self, other: &List) -> bool
+        ensures { result ≡ data_same (list self.now) (list other.now) }
+    {
+        if self.items.len() != other.items.len() {
+            return false;
+        }
+        for at in 0..self.items.len() {
+            if !alike(&self.items[at], &other.items[at]) {
+                return false;
+            }
+        }
+        true
     }
 
     #[cycle(copy)]

@@ -5,8 +5,10 @@ ghost use Rattle.uq_value.specs.Size.{data_size, most_size};
 ghost use Rattle.uq_value.specs.Depth.{data_depth, most_depth};
 ghost use Rattle.uq_value.specs.Plain.{members as spec_members};
 ghost use Rattle.uq_value.specs.Truth.{is_empty as spec_is_empty};
+ghost use Rattle.uq_value.specs.Same.{data_same};
 ghost use Rattle.uq_value.specs.Reading.{find_member};
 
+use crate::comparing::alike;
 use crate::copying::copy;
 use crate::error::NoMemory;
 use crate::text::Text;
@@ -99,6 +101,26 @@ impl Object {
             Some(m) => Some(&m.value),
             None => None,
         }
+    }
+
+    /// Whether the two have the same members in the same order.
+    #[cycle(alike)]
+    pub(crate) fn alike(&self, other: &Object) -> bool
+        ensures { result ≡ data_same (object self.now) (object other.now) }
+    {
+        if self.members.len() != other.members.len() {
+            return false;
+        }
+        for at in 0..self.members.len() {
+            let (mine, theirs) = (&self.members[at], &other.members[at]);
+            if mine.name.bytes() != theirs.name.bytes() {
+                return false;
+            }
+            if !alike(&mine.value, &theirs.value) {
+                return false;
+            }
+        }
+        true
     }
 
     #[cycle(copy)]
