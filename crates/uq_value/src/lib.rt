@@ -25,7 +25,7 @@ pub use error::{NoMemory, ValueFault};
 pub use list::List;
 pub use measuring::{depth, size, within_limits};
 pub use numbers::number;
-pub use object::{Member, Object};
+pub use object::Object;
 pub use reading::{get_index, get_member};
 pub use step::Step;
 pub use text::Text;
