@@ -1,0 +1,33 @@
+//! Values of the script language and the store: null, booleans, whole numbers, texts, lists and objects.
+#![tactic(auto)]
+
+mod builder;
+mod comparing;
+mod copying;
+mod error;
+mod list;
+mod measuring;
+mod numbers;
+mod object;
+mod reaching;
+mod reading;
+mod step;
+#[cfg(test)]
+mod tests;
+mod text;
+mod value;
+mod writing;
+
+pub use builder::ObjectBuilder;
+pub use comparing::{loose_same, order, same, truth};
+pub use copying::copy;
+pub use error::{NoMemory, ValueFault};
+pub use list::List;
+pub use measuring::{depth, size, within_limits};
+pub use numbers::number;
+pub use object::Object;
+pub use reading::{get_index, get_member};
+pub use step::Step;
+pub use text::Text;
+pub use value::Value;
+pub use writing::{put, put_index, put_member};

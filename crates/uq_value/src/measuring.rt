@@ -1,0 +1,89 @@
+// The size and depth of values, which lists and objects keep.
+
+ghost use Rattle.std.specs.Prelude.{◌≡◌, ◌≤◌, ◌<◌, ◌+◌, ◌^◌, IfSome};
+ghost use Rattle.uq_value.specs.Size.{leb_size as spec_leb_size, name_size as spec_name_size, most_size};
+ghost use Rattle.uq_value.specs.Depth.{most_depth};
+ghost use Rattle.uq_value.specs.Depths.{IsDepthAfter};
+ghost use Rattle.uq_value.specs.Plain.{size as spec_size, depth as spec_depth};
+
+use crate::value::Value;
+
+/// The greatest size of a value, in bytes of its stored form: 2^24 - 64.
+pub(crate) const MOST_SIZE: u64 = 16_777_152;
+
+/// The greatest depth of a value.
+pub(crate) const MOST_DEPTH: u32 = 128;
+
+/// The length of the value's stored form.
+pub fn size(v: &Value) -> u64
+    ensures size { result ≡ spec_size v.now }
+    ensures fits { spec_size v.now ≤ most_size }
+{
+    match v {
+        Value::Null | Value::Bool(_) => 1,
+        Value::Int(_) => 9,
+        Value::Text(t) => 1 + name_size(t.bytes()),
+        Value::List(l) => l.size(),
+        Value::Object(o) => o.size(),
+    }
+}
+
+/// How deep lists and objects nest in the value: 1 for those with none within, 0 for all other kinds.
+pub fn depth(v: &Value) -> u32
+    ensures depth { result ≡ spec_depth v.now }
+    ensures fits { spec_depth v.now ≤ most_depth }
+{
+    match v {
+        Value::Null | Value::Bool(_) | Value::Int(_) | Value::Text(_) => 0,
+        Value::List(l) => l.depth(),
+        Value::Object(o) => o.depth(),
+    }
+}
+
+/// Every value keeps the limits: a caller's proof learns it from this call, which does nothing.
+pub fn within_limits(v: &Value)
+    ensures small { spec_size v.now ≤ most_size }
+    ensures shallow { spec_depth v.now ≤ most_depth }
+{
+    let _ = size(v);
+    let _ = depth(v);
+}
+
+/// The bytes that a length and these bytes take.
+pub(crate) fn name_size(bytes: &[u8]) -> u64
+    ensures size { result ≡ spec_name_size bytes.now }
+    ensures small { result < 2 ^ 63 + 10 }
+{
+    leb_size(bytes.len()) + bytes.len() as u64
+}
+
+/// The bytes of a length as unsigned LEB128: groups of seven bits.
+pub(crate) fn leb_size(n: usize) -> u64
+    ensures size { result ≡ spec_leb_size n }
+    ensures small { result ≤ 10 }
+{
+    let mut rest = n;
+    for groups in 1..10 {
+        if rest < 128 {
+            return groups;
+        }
+        rest /= 128;
+    }
+    10
+}
+
+/// The depth of a list or object, of which one part's depth has changed. None where only the other parts tell: that
+/// part alone may have been the deepest, and is not as deep now.
+pub(crate) fn depth_now(kept: u32, before: u32, after: u32) -> Option<u32>
+    requires before_small { before ≤ most_depth }
+    requires after_small { after ≤ most_depth }
+    ensures { IfSome result (IsDepthAfter kept before after) }
+{
+    if after + 1 >= kept {
+        Some(after + 1)
+    } else if before + 1 < kept {
+        Some(kept)
+    } else {
+        None
+    }
+}

@@ -1,0 +1,33 @@
+ghost use Rattle.std.specs.Prelude.{◌≡◌, option_copied};
+ghost use Rattle.uq_value.specs.Reading.{get_member as spec_get_member, get_index as spec_get_index};
+
+use crate::value::Value;
+use itoa::Buffer;
+
+/// An object's member of this name.
+pub fn get_member<'v>(v: &'v Value, name: &[u8]) -> Option<&'v Value>
+    ensures { option_copied result ≡ spec_get_member v.now name.now }
+{
+    match v {
+        Value::Object(o) => o.find(name),
+        _ => None,
+    }
+}
+
+/// A list's item by a whole number, or an object's member by a text or by a whole number's decimal text.
+pub fn get_index<'v>(v: &'v Value, at: &Value) -> Option<&'v Value>
+    ensures { option_copied result ≡ spec_get_index v.now at.now }
+{
+    match v {
+        Value::List(l) => match at {
+            Value::Int(z) => l.item_at(*z),
+            _ => None,
+        },
+        Value::Object(o) => match at {
+            Value::Text(t) => o.find(t.bytes()),
+            Value::Int(z) => o.find(Buffer::new().format(*z).as_bytes()),
+            _ => None,
+        },
+        _ => None,
+    }
+}
