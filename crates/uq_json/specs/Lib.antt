@@ -1,3 +1,7 @@
 pub mod Quote
 pub mod Strings
 pub mod Grammar
+pub mod Text
+pub mod Answer
+pub mod Reading
+pub mod Decoding

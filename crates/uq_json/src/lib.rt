@@ -1,6 +1,13 @@
 //! JSON texts of values, and values of JSON texts (RFC 8259 in a profile: whole numbers of 64 bits, texts of any bytes).
 #![tactic(auto)]
 
+mod decoder;
+mod error;
+mod piece;
 mod quoting;
+mod scanning;
+mod unquoting;
 
+pub use error::JsonFault;
 pub use quoting::quote;
+pub use unquoting::unquote;

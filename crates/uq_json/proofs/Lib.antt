@@ -1,0 +1,5 @@
+pub mod Steps
+pub mod Pieces
+pub mod Decoding
+pub mod Faults
+pub mod Wholes
