@@ -3,3 +3,5 @@ pub mod Pieces
 pub mod Decoding
 pub mod Faults
 pub mod Wholes
+pub mod Escapes
+pub mod Parts

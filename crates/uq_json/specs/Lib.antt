@@ -5,3 +5,5 @@ pub mod Text
 pub mod Answer
 pub mod Reading
 pub mod Decoding
+pub mod Names
+pub mod Printing

@@ -4,10 +4,12 @@
 mod decoder;
 mod error;
 mod piece;
+mod printing;
 mod quoting;
 mod scanning;
 mod unquoting;
 
 pub use error::JsonFault;
+pub use printing::{print_json, text_of};
 pub use quoting::quote;
 pub use unquoting::unquote;

@@ -11,7 +11,9 @@ const DIGITS: &[u8; 16] = b"0123456789abcdef";
 
 /// The bytes as a JSON string (RFC 8259, section 7), with the shortest escapes.
 pub fn quote(alloc: Global, bytes: &[u8]) -> Result<Vec<u8>, NoMemory>
-    ensures { IfOk result (λ text. text.items ≡ quoted bytes.now) }
+    ensures text { IfOk result (λ text. text.items ≡ quoted bytes.now) }
+    // So `unquote` gives them back.
+    ensures spells { IfOk result (λ text. IsString text.items bytes.now) }
 {
     let mut text = Vec::new(alloc);
     match push_quoted(&mut text, bytes) {
