@@ -2,3 +2,15 @@ pub mod Levels
 pub mod Leb
 pub mod Digits
 pub mod Equality
+pub mod Totals
+pub mod Wholes
+pub mod Named
+pub mod Fields
+pub mod Deepest
+pub mod Limits
+pub mod Level
+pub mod Deeper
+pub mod ListWrite
+pub mod ObjectWrite
+pub mod Steps
+pub mod Puts

@@ -12,3 +12,7 @@ pub mod Same
 pub mod Order
 pub mod Put
 pub mod Faults
+pub mod Writing
+pub mod Places
+pub mod Depths
+pub mod Reaching

@@ -8,10 +8,12 @@ mod list;
 mod measuring;
 mod numbers;
 mod object;
+mod reaching;
 mod reading;
 mod step;
 mod text;
 mod value;
+mod writing;
 
 pub use comparing::{loose_same, order, same, truth};
 pub use copying::copy;
@@ -24,3 +26,4 @@ pub use reading::{get_index, get_member};
 pub use step::Step;
 pub use text::Text;
 pub use value::Value;
+pub use writing::{put, put_index, put_member};

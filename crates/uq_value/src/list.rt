@@ -1,16 +1,26 @@
-ghost use Rattle.std.specs.Prelude.{◌≡◌, ◌≤◌, [], length, slice_get, option_copied, IfOk};
+ghost use Rattle.std.specs.Prelude.{◌≡◌, ◌≤◌, ◌<◌, ◌+◌, [], ◌∷◌, ◌++◌, length, slice_get, option_copied, IfOk, IfErr, OnOk, OnErr, Ok, Err, MatchResult};
 ghost use Rattle.uq_value.specs.Data.{list};
+ghost use Rattle.uq_value.specs.Depths.{depths};
+ghost use Rattle.uq_value.specs.Faults.{Refuses};
+ghost use Rattle.uq_value.specs.Put.{limited, item};
+ghost use Rattle.uq_value.specs.Reaching.{reached};
+ghost use Rattle.uq_value.specs.Writing.{put_in, put_at, PushFits, size_beside_next};
+ghost use Rattle.uq_value.specs.declared.value.Value.TheVariants.{Int, List as List'};
+ghost use Rattle.uq_value.specs.declared.step.Step.TheVariants.{Index};
 ghost use Rattle.uq_value.specs.Size.{data_size, most_size};
 ghost use Rattle.uq_value.specs.Depth.{data_depth, most_depth};
-ghost use Rattle.uq_value.specs.Plain.{items as spec_items};
+ghost use Rattle.uq_value.specs.Plain.{items as spec_items, plain, depth as spec_depth};
 ghost use Rattle.uq_value.specs.Truth.{is_empty as spec_is_empty};
 ghost use Rattle.uq_value.specs.Same.{data_same};
 ghost use Rattle.uq_value.specs.Reading.{item_at as spec_item_at};
 
 use crate::comparing::alike;
 use crate::copying::copy;
-use crate::error::NoMemory;
+use crate::error::{NoMemory, ValueFault};
+use crate::measuring::{MOST_DEPTH, MOST_SIZE, depth, depth_now, leb_size, size};
+use crate::step::Step;
 use crate::value::Value;
+use crate::writing::write;
 use std::alloc::Global;
 use std::marker::Model;
 
@@ -120,6 +130,145 @@ impl List {
         })
     }
 
+    /// Appends a value. Refused is first a list that would be `TooDeep`, then one that would be `TooLarge`; a refusal
+    /// leaves the list.
+    pub fn push(&mut self, v: Value) -> Result<(), ValueFault>
+        ensures ok { OnOk result (self.new ≡ self.old ++ plain v ∷ []) }
+        ensures fits { OnOk result (limited (List' (self.old ++ plain v ∷ [])) ≡ Ok (List' self.new)) }
+        ensures refused { IfErr result (Refuses (limited (List' (self.old ++ plain v ∷ [])))) }
+        ensures unchanged { OnErr result (self.new ≡ self.old) }
+    {
+        if depth(&v) >= MOST_DEPTH {
+            return Err(ValueFault::TooDeep);
+        }
+        if self.size_beside_next() + size(&v) > MOST_SIZE {
+            return Err(ValueFault::TooLarge);
+        }
+        Ok(self.push_within(v)?)
+    }
+
+    /// Appends a value with which the list keeps the limits.
+    fn push_within(&mut self, v: Value) -> Result<(), NoMemory>
+        requires { PushFits v self.old }
+        ensures ok { OnOk result (self.new ≡ self.old ++ plain v ∷ []) }
+        ensures unchanged { OnErr result (self.new ≡ self.old) }
+    {
+        let size_after = self.size_beside_next() + size(&v);
+        let depth_after = self.depth.max(depth(&v) + 1);
+        let Ok(()) = self.items.push(v) else {
+            return Err(NoMemory);
+        };
+        self.size = size_after;
+        self.depth = depth_after;
+        Ok(())
+    }
+
+    /// The size with one item more, but for that item's own.
+    fn size_beside_next(&self) -> u64
+        ensures size { result ≡ size_beside_next self.now }
+        ensures small { result ≤ most_size + 10 }
+        ensures shallow { data_depth (list self.now) ≤ most_depth }
+    {
+        let count = self.items.len();
+        self.size - leb_size(count) + leb_size(count + 1)
+    }
+
+    /// The item at an index, none at the length.
+    pub(crate) fn reach(&self, at: i64) -> Result<Option<&Value>, ValueFault>
+        ensures { MatchResult result (λ o. reached (Index (Int at)) (List' self.now) ≡ Ok (option_copied o)) (λ e. reached (Index (Int at)) (List' self.now) ≡ Err e) }
+    {
+        if at < 0 || at as usize > self.items.len() {
+            return Err(ValueFault::IndexRange);
+        }
+        Ok(self.item(at as usize))
+    }
+
+    /// Writes from the item at an index on, or appends at the length.
+    #[cycle(write)]
+    pub(crate) fn write_index(
+        &mut self,
+        alloc: Global,
+        at: i64,
+        rest: &[Step],
+        new: Value,
+        room: u64,
+    ) -> Result<(), ValueFault>
+        requires shallow { length rest.now + spec_depth new < most_depth }
+        requires small { room ≤ most_size }
+        ensures ok { OnOk result (put_in room (Index (Int at) ∷ rest.now) new (List' self.old) ≡ Ok (List' self.new)) }
+        ensures refused { IfErr result (Refuses (put_in room (Index (Int at) ∷ rest.now) new (List' self.old))) }
+        ensures unchanged { OnErr result (self.new ≡ self.old) }
+    {
+        if at < 0 || at as usize > self.len() {
+            return Err(ValueFault::IndexRange);
+        }
+        if at as usize == self.len() {
+            return self.append(alloc, rest, new, room);
+        }
+        self.write_at(alloc, at as usize, rest, new, room)
+    }
+
+    /// Writes from an item that is there on.
+    #[cycle(write)]
+    fn write_at(
+        &mut self,
+        alloc: Global,
+        at: usize,
+        rest: &[Step],
+        new: Value,
+        room: u64,
+    ) -> Result<(), ValueFault>
+        requires within { at < length self.old }
+        requires shallow { length rest.now + spec_depth new < most_depth }
+        requires small { room ≤ most_size }
+        ensures ok { OnOk result (put_at room (item at) rest.now new (List' self.old) ≡ Ok (List' self.new)) }
+        ensures refused { IfErr result (Refuses (put_at room (item at) rest.now new (List' self.old))) }
+        ensures unchanged { OnErr result (self.new ≡ self.old) }
+    {
+        let child = &mut self.items[at];
+        let (size_before, depth_before) = (size(child), depth(child));
+        write(
+            alloc,
+            child,
+            rest,
+            new,
+            room.saturating_sub(self.size - size_before),
+        )?;
+        let (size_after, depth_after) = (size(child), depth(child));
+        self.size = self.size - size_before + size_after;
+        self.depth = match depth_now(self.depth, depth_before, depth_after) {
+            Some(depth) => depth,
+            None => deepest(self.items.as_slice()) + 1,
+        };
+        Ok(())
+    }
+
+    /// Writes from null on, and appends what comes of it.
+    #[cycle(write)]
+    pub(crate) fn append(
+        &mut self,
+        alloc: Global,
+        rest: &[Step],
+        new: Value,
+        room: u64,
+    ) -> Result<(), ValueFault>
+        requires shallow { length rest.now + spec_depth new < most_depth }
+        requires small { room ≤ most_size }
+        ensures ok { OnOk result (put_at room (item (length self.old)) rest.now new (List' self.old) ≡ Ok (List' self.new)) }
+        ensures refused { IfErr result (Refuses (put_at room (item (length self.old)) rest.now new (List' self.old))) }
+        ensures unchanged { OnErr result (self.new ≡ self.old) }
+    {
+        let mut last = Value::Null;
+        write(
+            alloc,
+            &mut last,
+            rest,
+            new,
+            room.saturating_sub(self.size_beside_next()),
+        )?;
+        Ok(self.push_within(last)?)
+    }
+
     pub(crate) fn size(&self) -> u64
         ensures size { result ≡ data_size (list self.now) }
         ensures fits { data_size (list self.now) ≤ most_size }
@@ -133,4 +282,19 @@ impl List {
     {
         self.depth
     }
+}
+
+/// How deep the deepest of these is.
+fn deepest(values: &[Value]) -> u32
+    ensures depth { result ≡ depths values.now }
+    ensures fits { depths values.now ≤ most_depth }
+{
+    let mut most = 0;
+    for v in values {
+        let d = depth(v);
+        if d > most {
+            most = d;
+        }
+    }
+    most
 }

@@ -1,18 +1,27 @@
-ghost use Rattle.std.specs.Prelude.{◌≡◌, ◌≤◌, [], length, bytes_eq, slice_get, option_copied, option_map, IfOk};
+ghost use Rattle.std.specs.Prelude.{◌≡◌, ◌≤◌, ◌<◌, ◌+◌, [], ◌∷◌, ◌++◌, length, map, bytes_eq, slice_get, option_copied, option_map, IfOk, IfErr, OnOk, OnErr, Ok};
+ghost use Rattle.uq_value.specs.Depths.{member_depths};
+ghost use Rattle.uq_value.specs.Faults.{Refuses};
+ghost use Rattle.uq_value.specs.Places.{place_of as spec_place_of};
+ghost use Rattle.uq_value.specs.Put.{member};
+ghost use Rattle.uq_value.specs.Writing.{put_at, MemberFits, object_beside_next};
+ghost use Rattle.uq_value.specs.declared.value.Value.TheVariants.{Object as Object'};
 ghost use Rattle.std.specs.List.{find};
 ghost use Rattle.uq_value.specs.Data.{object, names_of, IsDistinct};
 ghost use Rattle.uq_value.specs.Size.{data_size, most_size};
 ghost use Rattle.uq_value.specs.Depth.{data_depth, most_depth};
-ghost use Rattle.uq_value.specs.Plain.{members as spec_members};
+ghost use Rattle.uq_value.specs.Plain.{members as spec_members, plain, depth as spec_depth};
 ghost use Rattle.uq_value.specs.Truth.{is_empty as spec_is_empty};
 ghost use Rattle.uq_value.specs.Same.{data_same};
 ghost use Rattle.uq_value.specs.Reading.{find_member};
 
 use crate::comparing::alike;
 use crate::copying::copy;
-use crate::error::NoMemory;
+use crate::error::{NoMemory, ValueFault};
+use crate::measuring::{depth, depth_now, leb_size, name_size, size};
+use crate::step::Step;
 use crate::text::Text;
 use crate::value::Value;
+use crate::writing::write;
 use std::alloc::Global;
 use std::marker::Model;
 
@@ -142,6 +151,93 @@ impl Object {
         })
     }
 
+    /// Writes from the member of this name on, or adds that as the last one.
+    #[cycle(write)]
+    pub(crate) fn write_member(
+        &mut self,
+        alloc: Global,
+        name: &[u8],
+        rest: &[Step],
+        new: Value,
+        room: u64,
+    ) -> Result<(), ValueFault>
+        requires shallow { length rest.now + spec_depth new < most_depth }
+        requires small { room ≤ most_size }
+        ensures ok { OnOk result (put_at room (member name.now) rest.now new (Object' self.old) ≡ Ok (Object' self.new)) }
+        ensures refused { IfErr result (Refuses (put_at room (member name.now) rest.now new (Object' self.old))) }
+        ensures unchanged { OnErr result (self.new ≡ self.old) }
+    {
+        let at = place_of(self.members.as_slice(), name);
+        if at == self.members.len() {
+            return self.add_member(alloc, name, rest, new, room);
+        }
+        let child = &mut self.members[at].value;
+        let (size_before, depth_before) = (size(child), depth(child));
+        write(
+            alloc,
+            child,
+            rest,
+            new,
+            room.saturating_sub(self.size - size_before),
+        )?;
+        let (size_after, depth_after) = (size(child), depth(child));
+        self.size = self.size - size_before + size_after;
+        self.depth = match depth_now(self.depth, depth_before, depth_after) {
+            Some(depth) => depth,
+            None => deepest(self.members.as_slice()) + 1,
+        };
+        Ok(())
+    }
+
+    /// Writes from null on, and adds what comes of it as the last member.
+    #[cycle(write)]
+    fn add_member(
+        &mut self,
+        alloc: Global,
+        name: &[u8],
+        rest: &[Step],
+        new: Value,
+        room: u64,
+    ) -> Result<(), ValueFault>
+        requires absent { spec_place_of name.now (names_of self.old) ≡ length self.old }
+        requires shallow { length rest.now + spec_depth new < most_depth }
+        requires small { room ≤ most_size }
+        ensures ok { OnOk result (put_at room (member name.now) rest.now new (Object' self.old) ≡ Ok (Object' self.new)) }
+        ensures refused { IfErr result (Refuses (put_at room (member name.now) rest.now new (Object' self.old))) }
+        ensures unchanged { OnErr result (self.new ≡ self.old) }
+    {
+        let beside = self.size_beside_next() + name_size(name);
+        let mut value = Value::Null;
+        write(alloc, &mut value, rest, new, room.saturating_sub(beside))?;
+        let name = Text::of(alloc, name)?;
+        Ok(self.push_within(name, value)?)
+    }
+
+    /// Adds a member with which the object keeps the limits and has distinct names.
+    fn push_within(&mut self, name: Text, value: Value) -> Result<(), NoMemory>
+        requires { MemberFits name value self.old }
+        ensures ok { OnOk result (self.new ≡ self.old ++ (name, plain value) ∷ []) }
+        ensures unchanged { OnErr result (self.new ≡ self.old) }
+    {
+        let size_after = self.size_beside_next() + name_size(name.bytes()) + size(&value);
+        let depth_after = self.depth.max(depth(&value) + 1);
+        let Ok(()) = self.members.push(Member { name, value }) else {
+            return Err(NoMemory);
+        };
+        self.size = size_after;
+        self.depth = depth_after;
+        Ok(())
+    }
+
+    /// The size with one member more, but for that member's own.
+    fn size_beside_next(&self) -> u64
+        ensures size { result ≡ object_beside_next self.now }
+        ensures small { result ≤ most_size + 10 }
+    {
+        let count = self.members.len();
+        self.size - leb_size(count) + leb_size(count + 1)
+    }
+
     /// The names are distinct: a caller's proof learns it from this call, which does nothing.
     pub fn has_distinct_names(&self)
         ensures { IsDistinct (names_of self.now) }
@@ -169,4 +265,31 @@ fn named<'m>(members: &'m [Member], name: &[u8]) -> Option<&'m Member>
     ensures { option_copied result ≡ find (λ m. bytes_eq m.name name.now) members.now }
 {
     members.iter().find(|m| m.name.bytes() == name)
+}
+
+/// The place of the member of this name, or the number of members where there is none.
+fn place_of(members: &[Member], name: &[u8]) -> usize
+    ensures { result ≡ spec_place_of name.now (map (λ m. m.name) members.now) }
+{
+    for at in 0..members.len() {
+        if members[at].name.bytes() == name {
+            return at;
+        }
+    }
+    members.len()
+}
+
+/// How deep the deepest of their values is.
+fn deepest(members: &[Member]) -> u32
+    ensures depth { result ≡ member_depths members.now }
+    ensures fits { member_depths members.now ≤ most_depth }
+{
+    let mut most = 0;
+    for m in members {
+        let d = depth(&m.value);
+        if d > most {
+            most = d;
+        }
+    }
+    most
 }

@@ -1,0 +1,29 @@
+use Rattle.std.proofs.Common.{◌+◌, ◌*◌, length}
+use Rattle.uq_value.proofs.+write.Given as goal
+
+abbrev pub decreases-writing::write : goal.decreases-writing::write
+decreases-writing::write l = 6 * length l.steps.now
+
+abbrev pub decreases-writing::write_index : goal.decreases-writing::write_index
+decreases-writing::write_index l = 6 * length l.rest.now + 5
+
+abbrev pub decreases-writing::write_member : goal.decreases-writing::write_member
+decreases-writing::write_member l = 6 * length l.rest.now + 4
+
+abbrev pub decreases-writing::write_append : goal.decreases-writing::write_append
+decreases-writing::write_append l = 6 * length l.rest.now + 4
+
+abbrev pub decreases-list::List::write_index : goal.decreases-list::List::write_index
+decreases-list::List::write_index l = 6 * length l.rest.now + 3
+
+abbrev pub decreases-list::List::append : goal.decreases-list::List::append
+decreases-list::List::append l = 6 * length l.rest.now + 1
+
+abbrev pub decreases-list::List::write_at : goal.decreases-list::List::write_at
+decreases-list::List::write_at l = 6 * length l.rest.now + 1
+
+abbrev pub decreases-object::Object::write_member : goal.decreases-object::Object::write_member
+decreases-object::Object::write_member l = 6 * length l.rest.now + 3
+
+abbrev pub decreases-object::Object::add_member : goal.decreases-object::Object::add_member
+decreases-object::Object::add_member l = 6 * length l.rest.now + 1

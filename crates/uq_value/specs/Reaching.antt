@@ -1,0 +1,18 @@
+-- Where steps lead, whatever is to be written at their end.
+use Rattle.std.specs.Prelude.{◌≡◌, List, Option, Ok, Err}
+use Rattle.uq_value.specs.Put.{Put, then_put, key, there, put_within}
+use Rattle.uq_value.specs.declared.value.Value.{Value}
+use Rattle.uq_value.specs.declared.step.Step.{Step}
+use Rattle.uq_value.specs.declared.error.ValueFault.{ValueFault}
+
+-- what stands a step on
+abbrev pub reached : Step → Value → Put (Option Value)
+reached s v = then_put (key s v) (λ k. Ok (there k v))
+
+-- the first fault of the steps
+abbrev pub Refused : List Step → Value → ValueFault → Type 0
+Refused steps v e = (new : Value) → put_within steps new v ≡ Err e
+
+-- the steps lead somewhere
+abbrev pub Leads : List Step → Value → Type 0
+Leads steps v = (new : Value) → (w : Value) × (put_within steps new v ≡ Ok w)
