@@ -5,3 +5,6 @@ pub mod Faults
 pub mod Wholes
 pub mod Escapes
 pub mod Parts
+pub mod Numbers
+pub mod Deep
+pub mod Listing

@@ -125,19 +125,20 @@ abbrev pub listed_within : {A : Type 0} → (Bytes → Read A) → ℕ → ℕ �
 listed_within r close zero ts = Err NotJson
 listed_within r close (suc n) ts = r ts >>= λ x. others_at close (listed_within r close n) x.0 x.1
 
-abbrev pub bracketed_at : {A : Type 0} → (Bytes → Read A) → ℕ → Bytes → Bytes → Read (List A)
-bracketed_at r close ts [] = listed_within r close (suc (length ts)) ts
-bracketed_at r close ts (c ∷ cs) = if c == close then Ok ([], cs) else listed_within r close (suc (length ts)) ts
+-- behind the opening bracket
+abbrev pub bracketed_at : {A : Type 0} → (Bytes → Read A) → ℕ → Bytes → Read (List A)
+bracketed_at r close ts =
+    if is_next close (skip_blanks ts) then Ok ([], drop 1 (skip_blanks ts)) else listed_within r close (suc (length ts)) ts
 
 abbrev pub member_at : (Bytes → Read Data) → Bytes → Read (Bytes × Data)
 member_at r ts = padded string_at ts >>= λ name. behind 0x3a name.1 >>= λ x. r x.1 >>= λ d. Ok ((name.0, d.0), d.1)
 
 -- behind `[`, and behind `{`
 abbrev pub list_at : (Bytes → Read Data) → Bytes → Read Data
-list_at r ts = bracketed_at r 0x5d ts (skip_blanks ts) >>= λ x. Ok (list x.0, x.1)
+list_at r ts = bracketed_at r 0x5d ts >>= λ x. Ok (list x.0, x.1)
 
 abbrev pub object_at : (Bytes → Read Data) → Bytes → Read Data
-object_at r ts = bracketed_at (member_at r) 0x7d ts (skip_blanks ts) >>= λ x. Ok (object (merged x.0), x.1)
+object_at r ts = bracketed_at (member_at r) 0x7d ts >>= λ x. Ok (object (merged x.0), x.1)
 
 abbrev pub value_at : (Bytes → Read Data) → (Bytes → Read Data) → Bytes → Read Data
 value_at in_list in_object [] = Err NotJson
