@@ -8,3 +8,5 @@ pub mod Parts
 pub mod Numbers
 pub mod Deep
 pub mod Listing
+pub mod Elements
+pub mod Rooms

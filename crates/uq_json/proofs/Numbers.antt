@@ -182,13 +182,15 @@ pub record ScalarBegins (w : Bytes) : Type 0 where
   pub printed : 0x20 < first
   pub no_list : first ≢ 0x5b
   pub no_object : first ≢ 0x7b
+  pub no_list_end : first ≢ 0x5d
+  pub no_object_end : first ≢ 0x7d
 
 pub scalar_begins : (w : Bytes) (d : Data) → IsScalar w d → ScalarBegins w
-scalar_begins w d (of_null is value) = record { first = 0x6e; others = codes "ull"; is = is; printed = omega arith; no_list = omega arith; no_object = omega arith }
-scalar_begins w d (of_true is value) = record { first = 0x74; others = codes "rue"; is = is; printed = omega arith; no_list = omega arith; no_object = omega arith }
-scalar_begins w d (of_false is value) = record { first = 0x66; others = codes "alse"; is = is; printed = omega arith; no_list = omega arith; no_object = omega arith }
-scalar_begins w d (of_number z is value) = let b = number_begins w z is in let low = b.low in let high = b.high in record { first = b.first; others = b.others; is = b.is; printed = omega arith; no_list = omega arith; no_object = omega arith }
-scalar_begins w d (of_string bs is value) = record { first = 0x22; others = is.body; is = is.opened; printed = omega arith; no_list = omega arith; no_object = omega arith }
+scalar_begins w d (of_null is value) = record { first = 0x6e; others = codes "ull"; is = is; printed = omega arith; no_list = omega arith; no_object = omega arith; no_list_end = omega arith; no_object_end = omega arith }
+scalar_begins w d (of_true is value) = record { first = 0x74; others = codes "rue"; is = is; printed = omega arith; no_list = omega arith; no_object = omega arith; no_list_end = omega arith; no_object_end = omega arith }
+scalar_begins w d (of_false is value) = record { first = 0x66; others = codes "alse"; is = is; printed = omega arith; no_list = omega arith; no_object = omega arith; no_list_end = omega arith; no_object_end = omega arith }
+scalar_begins w d (of_number z is value) = let b = number_begins w z is in let low = b.low in let high = b.high in record { first = b.first; others = b.others; is = b.is; printed = omega arith; no_list = omega arith; no_object = omega arith; no_list_end = omega arith; no_object_end = omega arith }
+scalar_begins w d (of_string bs is value) = record { first = 0x22; others = is.body; is = is.opened; printed = omega arith; no_list = omega arith; no_object = omega arith; no_list_end = omega arith; no_object_end = omega arith }
 
 number_last : (c : ℕ) (cs : Bytes) → 0x2d ≤ c → c < 0x3a → scalar_at (c ∷ cs) ≡ (number_at (c ∷ cs) >>= λ y. Ok (whole y.0, y.1))
 number_last c cs low high =
