@@ -10,3 +10,5 @@ pub mod Deep
 pub mod Listing
 pub mod Elements
 pub mod Rooms
+pub mod Agreement
+pub mod Verdicts
