@@ -14,3 +14,5 @@ pub mod ListWrite
 pub mod ObjectWrite
 pub mod Steps
 pub mod Puts
+pub mod SlotLaws
+pub mod Halves

@@ -70,11 +70,11 @@ absent name (m ∷ ms) e = split (λ k. absent name ms k) (bytes_eq m.0 name) re
 
 -- ---- distinct names
 
-or-false : (a b : Bool) → (a || b) ≡ false → (a ≡ false) × (b ≡ false)
+pub or-false : (a b : Bool) → (a || b) ≡ false → (a ≡ false) × (b ≡ false)
 or-false true b h = cc
 or-false false b h = (refl, h)
 
-differ : (n name : Bytes) → bytes_eq n name ≡ false → bytes_eq name n ≡ false
+pub differ : (n name : Bytes) → bytes_eq n name ≡ false → bytes_eq name n ≡ false
 differ n name h = split (bytes_eq name n) refl
   where
     split : (b : Bool) → bytes_eq name n ≡ b → bytes_eq name n ≡ false
@@ -93,7 +93,7 @@ distinct-push (n ∷ ns) name h e =
     let parts : (bytes_eq n name ≡ false) × (is_among name ns ≡ false) = or-false (bytes_eq n name) (is_among name ns) e
     in (among-push n name ns h.0 (differ n name parts.0), distinct-push ns name h.1 parts.1)
 
-names-push : (ms : Pairs) (name : Bytes) (d : Data) → names_of (ms ++ (name, d) ∷ []) ≡ names_of ms ++ name ∷ []
+pub names-push : (ms : Pairs) (name : Bytes) (d : Data) → names_of (ms ++ (name, d) ∷ []) ≡ names_of ms ++ name ∷ []
 names-push [] name d = refl
 names-push (m ∷ ms) name d = ap (λ ns. m.0 ∷ ns) (names-push ms name d)
 

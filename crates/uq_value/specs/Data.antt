@@ -62,6 +62,6 @@ abbrev pub IsDistinct : List Bytes → Type 0
 IsDistinct [] = Unit {0}
 IsDistinct (n ∷ ns) = (is_among n ns ≡ false) × IsDistinct ns
 
-abbrev pub names_of : Pairs → List Bytes
+abbrev pub names_of : {D : Type 0} → List (Bytes × D) → List Bytes
 names_of [] = []
 names_of (m ∷ ms) = m.0 ∷ names_of ms

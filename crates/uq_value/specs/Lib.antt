@@ -16,3 +16,5 @@ pub mod Writing
 pub mod Places
 pub mod Depths
 pub mod Reaching
+pub mod Slots
+pub mod Halfway

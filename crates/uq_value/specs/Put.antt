@@ -2,7 +2,7 @@
 use Rattle.std.specs.Prelude.{ℕ, if◌then◌else◌, nat_lt, ℤ, pos, negsuc, List, Option, None, [], ◌∷◌, ◌++◌, length, Result, Ok, Err, slice_set, unwrap_or}
 use Rattle.std.specs.Str.{bytes_eq}
 use Rattle.std.specs.Fmt.{signed_decimal}
-use Rattle.uq_value.specs.Data.{Bytes, Data, Datas, Pairs}
+use Rattle.uq_value.specs.Data.{Bytes, Data, Datas}
 use Rattle.uq_value.specs.Size.{most_size}
 use Rattle.uq_value.specs.Depth.{most_depth}
 use Rattle.uq_value.specs.Plain.{plain, size, depth}
@@ -62,7 +62,7 @@ abbrev pub with_item : ℕ → Data → Datas → Datas
 with_item k d ds = if nat_lt k (length ds) then slice_set ds k d else ds ++ d ∷ []
 
 -- a member set in its place, or appended
-abbrev pub with_member : Bytes → Data → Pairs → Pairs
+abbrev pub with_member : {D : Type 0} → Bytes → D → List (Bytes × D) → List (Bytes × D)
 with_member name d [] = (name, d) ∷ []
 with_member name d (m ∷ ms) = if bytes_eq m.0 name then (m.0, d) ∷ ms else m ∷ with_member name d ms
 

@@ -1,10 +1,10 @@
 -- A write in the room that the whole has left, level by level.
-use Rattle.std.specs.Prelude.{◌≡◌, ◌≤◌, ◌<◌, ◌+◌, length, ℕ, if◌then◌else◌, nat_lt, List, Ok, Err}
+use Rattle.std.specs.Prelude.{Bool, true, false, [], ◌∷◌, ◌++◌, ◌≡◌, ◌≤◌, ◌<◌, ◌+◌, length, ℕ, if◌then◌else◌, nat_lt, List, Ok, Err}
 use Rattle.uq_value.specs.Data.{Bytes, Datas, Pairs, items_of, members_of, names_of}
 use Rattle.uq_value.specs.Size.{leb_size, name_size, items_size, members_size, most_size}
 use Rattle.uq_value.specs.Depth.{most_depth}
 use Rattle.uq_value.specs.Places.{place_of}
-use Rattle.uq_value.specs.Plain.{size, depth}
+use Rattle.uq_value.specs.Plain.{plain, size, depth}
 use Rattle.uq_value.specs.Put.{Put, Key, then_put, at_child, put_within}
 use Rattle.uq_value.specs.declared.value.Value.{Value}
 use Rattle.uq_value.specs.declared.step.Step.{Step}
@@ -39,3 +39,8 @@ pub record MemberFits (name : Bytes) (v : Value) (ms : Pairs) : Type 0 where
   pub absent : place_of name (names_of ms) ≡ length ms
   pub small : object_beside_next ms + name_size name + size v ≤ most_size
   pub shallow : depth v < most_depth
+
+-- a member was added, or the object would have been too large with it
+abbrev pub PushesIfSmall : Pairs → Pairs → Bytes → Value → Bool → Type 0
+PushesIfSmall before after name v true = (after ≡ before ++ (name, plain v) ∷ []) × (object_beside_next before + name_size name + size v ≤ most_size)
+PushesIfSmall before after name v false = most_size < object_beside_next before + name_size name + size v

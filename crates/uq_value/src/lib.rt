@@ -1,6 +1,7 @@
 //! Values of the script language and the store: null, booleans, whole numbers, texts, lists and objects.
 #![tactic(auto)]
 
+mod builder;
 mod comparing;
 mod copying;
 mod error;
@@ -11,10 +12,13 @@ mod object;
 mod reaching;
 mod reading;
 mod step;
+#[cfg(test)]
+mod tests;
 mod text;
 mod value;
 mod writing;
 
+pub use builder::ObjectBuilder;
 pub use comparing::{loose_same, order, same, truth};
 pub use copying::copy;
 pub use error::{NoMemory, ValueFault};

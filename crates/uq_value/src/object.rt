@@ -3,7 +3,7 @@ ghost use Rattle.uq_value.specs.Depths.{member_depths};
 ghost use Rattle.uq_value.specs.Faults.{Refuses};
 ghost use Rattle.uq_value.specs.Places.{place_of as spec_place_of};
 ghost use Rattle.uq_value.specs.Put.{member};
-ghost use Rattle.uq_value.specs.Writing.{put_at, MemberFits, object_beside_next};
+ghost use Rattle.uq_value.specs.Writing.{put_at, MemberFits, PushesIfSmall, object_beside_next};
 ghost use Rattle.uq_value.specs.declared.value.Value.TheVariants.{Object as Object'};
 ghost use Rattle.std.specs.List.{find};
 ghost use Rattle.uq_value.specs.Data.{object, names_of, IsDistinct};
@@ -17,7 +17,7 @@ ghost use Rattle.uq_value.specs.Reading.{find_member};
 use crate::comparing::alike;
 use crate::copying::copy;
 use crate::error::{NoMemory, ValueFault};
-use crate::measuring::{depth, depth_now, leb_size, name_size, size};
+use crate::measuring::{MOST_SIZE, depth, depth_now, leb_size, name_size, size};
 use crate::step::Step;
 use crate::text::Text;
 use crate::value::Value;
@@ -211,6 +211,20 @@ impl Object {
         write(alloc, &mut value, rest, new, room.saturating_sub(beside))?;
         let name = Text::of(alloc, name)?;
         Ok(self.push_within(name, value)?)
+    }
+
+    /// Adds a member of another name, where the object then keeps the limit of size. The answer is whether it does.
+    pub(crate) fn push_if_small(&mut self, name: Vec<u8>, value: Value) -> Result<bool, NoMemory>
+        requires absent { spec_place_of name.items (names_of self.old) ≡ length self.old }
+        requires shallow { spec_depth value < most_depth }
+        ensures ok { IfOk result (PushesIfSmall self.old self.new name.items value) }
+        ensures unchanged { OnErr result (self.new ≡ self.old) }
+    {
+        if self.size_beside_next() + name_size(name.as_slice()) + size(&value) > MOST_SIZE {
+            return Ok(false);
+        }
+        self.push_within(Text::from_vec_within(name), value)?;
+        Ok(true)
     }
 
     /// Adds a member with which the object keeps the limits and has distinct names.

@@ -1,6 +1,7 @@
-ghost use Rattle.std.specs.Prelude.{◌≡◌, ◌≤◌, IfOk, IfErr, OnOk};
+ghost use Rattle.std.specs.Prelude.{◌≡◌, ◌≤◌, ◌↔◌, IsOk, IfOk, IfErr, OnOk};
 ghost use Rattle.uq_value.specs.Size.{text_size, most_size};
 ghost use Rattle.uq_value.specs.Faults.{TextFault};
+ghost use Rattle.uq_value.specs.declared.error.ValueFault.TheVariants.{TooLarge};
 
 use crate::error::{NoMemory, ValueFault};
 use crate::measuring::{MOST_SIZE, name_size};
@@ -46,6 +47,26 @@ impl Text {
             return Err(NoMemory);
         };
         Ok(Text { bytes })
+    }
+
+    /// A text of bytes that are its own from now on. It is `TooLarge` exactly where its size is above the limit.
+    pub fn from_vec(bytes: Vec<u8>) -> Result<Text, ValueFault>
+        ensures ok { IfOk result (λ t. t ≡ bytes.items) }
+        ensures exact { IsOk result ↔ (text_size bytes.items ≤ most_size) }
+        ensures fault { IfErr result (λ e. e ≡ TooLarge) }
+    {
+        if 1 + name_size(bytes.as_slice()) > MOST_SIZE {
+            return Err(ValueFault::TooLarge);
+        }
+        Ok(Text::from_vec_within(bytes))
+    }
+
+    /// A text of bytes that are known to fit, which are its own from now on.
+    pub(crate) fn from_vec_within(bytes: Vec<u8>) -> Text
+        requires { text_size bytes.items ≤ most_size }
+        ensures { result ≡ bytes.items }
+    {
+        Text { bytes }
     }
 
     /// The bytes.

@@ -1,0 +1,336 @@
+use crate::*;
+use std::alloc::Global;
+use std::cmp::Ordering;
+use std::process::Abort;
+
+fn text(rt: &impl Abort, alloc: Global, bytes: &[u8]) -> Value {
+    Value::Text(Text::new(alloc, bytes).expect(rt, "a text"))
+}
+
+fn ints(rt: &impl Abort, alloc: Global, numbers: &[i64]) -> Value {
+    let mut list = List::new(alloc);
+    for z in numbers {
+        list.push(Value::Int(*z)).expect(rt, "a list");
+    }
+    Value::List(list)
+}
+
+/// An object with these two members, put in this order.
+fn pair(rt: &impl Abort, alloc: Global, first: &[u8], second: &[u8]) -> Value {
+    let mut object = Value::Null;
+    put_member(alloc, &mut object, first, Value::Int(1)).expect(rt, "the first");
+    put_member(alloc, &mut object, second, Value::Int(2)).expect(rt, "the second");
+    object
+}
+
+#[test]
+fn a_copy_is_changed_apart(rt: HostRuntime) {
+    let alloc = rt.alloc();
+    let letter = Text::new(alloc, b"a").expect(&rt, "a text");
+    assert_eq!(rt; letter.bytes(), b"a".as_slice());
+    let one = ints(&rt, alloc, &[1]);
+    let mut other = copy(alloc, &one).expect(&rt, "a copy");
+    assert!(rt; same(&other, &ints(&rt, alloc, &[1])));
+    put_index(alloc, &mut other, &Value::Int(0), Value::Int(2)).expect(&rt, "a write");
+    assert!(rt; same(&other, &ints(&rt, alloc, &[2])));
+    assert!(rt; same(&one, &ints(&rt, alloc, &[1])));
+}
+
+#[test]
+fn null_becomes_what_a_step_asks_for(rt: HostRuntime) {
+    let alloc = rt.alloc();
+    let mut root = Value::Null;
+    let second = [Step::Index(Value::Int(1))];
+    assert_eq!(rt;
+        put(alloc, &mut root, &second, Value::Int(5)),
+        Err(ValueFault::IndexRange)
+    );
+    let first = [Step::Index(Value::Int(0))];
+    assert_eq!(rt; put(alloc, &mut root, &first, Value::Int(5)), Ok(()));
+    assert!(rt; same(&root, &ints(&rt, alloc, &[5])));
+    let mut null = Value::Null;
+    let by_boolean = put_index(alloc, &mut null, &Value::Bool(true), Value::Null);
+    assert_eq!(rt; by_boolean, Err(ValueFault::NotContainer));
+    // the fault of the second step comes, and the list that the first would make does not
+    let twice = [Step::Append, Step::Index(Value::Int(1))];
+    assert_eq!(rt;
+        put(alloc, &mut null, &twice, Value::Null),
+        Err(ValueFault::IndexRange)
+    );
+    assert!(rt; same(&null, &Value::Null));
+}
+
+#[test]
+fn an_object_keeps_the_place_of_a_member_and_takes_its_last_value(rt: HostRuntime) {
+    let alloc = rt.alloc();
+    let mut object = pair(&rt, alloc, b"a", b"-7");
+    put_member(alloc, &mut object, b"a", Value::Int(3)).expect(&rt, "a member");
+    let seven = get_index(&object, &Value::Int(-7)).expect(&rt, "by the decimal text");
+    assert!(rt; same(seven, &Value::Int(2)));
+    let Value::Object(members) = &object else {
+        return;
+    };
+    assert_eq!(rt; members.len(), 2);
+    let (name, value) = members.member(0).expect(&rt, "the first");
+    assert_eq!(rt; name, b"a".as_slice());
+    assert!(rt; same(value, &Value::Int(3)));
+}
+
+/// What comes of an index step that puts 5 into a list.
+fn check_index(
+    rt: &impl Abort,
+    alloc: Global,
+    root: &[i64],
+    at: &Value,
+    want: Result<&[i64], ValueFault>,
+) {
+    let mut value = ints(rt, alloc, root);
+    let answer = put_index(alloc, &mut value, at, Value::Int(5));
+    match want {
+        Ok(items) => assert!(rt; same(&value, &ints(rt, alloc, items))),
+        Err(fault) => {
+            assert_eq!(rt; answer, Err(fault));
+            assert!(rt; same(&value, &ints(rt, alloc, root)));
+        }
+    }
+}
+
+#[test]
+fn a_list_takes_indices_up_to_its_length(rt: HostRuntime) {
+    let alloc = rt.alloc();
+    check_index(&rt, alloc, &[1], &Value::Int(0), Ok(&[5]));
+    check_index(&rt, alloc, &[1, 2], &Value::Int(1), Ok(&[1, 5]));
+    check_index(&rt, alloc, &[1, 2], &Value::Int(2), Ok(&[1, 2, 5]));
+    check_index(
+        &rt,
+        alloc,
+        &[1, 2],
+        &Value::Int(3),
+        Err(ValueFault::IndexRange),
+    );
+    check_index(
+        &rt,
+        alloc,
+        &[1, 2],
+        &Value::Int(-1),
+        Err(ValueFault::IndexRange),
+    );
+    check_index(
+        &rt,
+        alloc,
+        &[1],
+        &text(&rt, alloc, b"0"),
+        Err(ValueFault::IndexRange),
+    );
+    let mut list = ints(&rt, alloc, &[1]);
+    let by_name = put_member(alloc, &mut list, b"a", Value::Null);
+    assert_eq!(rt; by_name, Err(ValueFault::NotContainer));
+    let mut number = Value::Int(1);
+    let appended = put(alloc, &mut number, &[Step::Append], Value::Null);
+    assert_eq!(rt; appended, Err(ValueFault::NotContainer));
+}
+
+#[test]
+fn texts_have_the_numbers_of_their_digits(rt: HostRuntime) {
+    let alloc = rt.alloc();
+    let table: [(&[u8], Option<i64>); 16] = [
+        (b"0", Some(0)),
+        (b"-0", Some(0)),
+        (b"007", Some(7)),
+        (b"-12", Some(-12)),
+        (b"", None),
+        (b"-", None),
+        (b"+1", None),
+        (b"1a", None),
+        (b" 1", None),
+        (b"9223372036854775807", Some(i64::MAX)),
+        (b"9223372036854775808", None),
+        (b"-9223372036854775808", Some(i64::MIN)),
+        (b"-9223372036854775809", None),
+        (b"10000000000000000000", None),
+        (b"00000000000000000001", Some(1)),
+        (b"18446744073709551617", None),
+    ];
+    for (at, (digits, want)) in table.iter().enumerate() {
+        assert_eq!(rt; number(&text(&rt, alloc, digits)), *want, "row {at}");
+    }
+    assert_eq!(rt; number(&Value::Bool(true)), Some(1));
+    assert_eq!(rt; number(&Value::List(List::new(alloc))), None);
+}
+
+/// Whether two values are `===` and `==`, and their order.
+fn compared(a: &Value, b: &Value) -> (bool, bool, Option<Ordering>) {
+    (same(a, b), loose_same(a, b), order(a, b))
+}
+
+#[test]
+fn texts_and_numbers_compare_by_number_and_two_texts_by_bytes(rt: HostRuntime) {
+    let alloc = rt.alloc();
+    let (nine, ten) = (text(&rt, alloc, b"9"), text(&rt, alloc, b"10"));
+    let empty = text(&rt, alloc, b"");
+    assert_eq!(rt; compared(&ten, &nine), (false, false, Some(Ordering::Less)));
+    assert_eq!(rt;
+        compared(&Value::Int(10), &nine),
+        (false, false, Some(Ordering::Greater))
+    );
+    assert_eq!(rt;
+        compared(&text(&rt, alloc, b"07"), &Value::Int(7)),
+        (false, true, Some(Ordering::Equal))
+    );
+    assert_eq!(rt; compared(&Value::Int(0), &empty), (false, false, None));
+    assert_eq!(rt; compared(&Value::Null, &empty), (false, true, None));
+    assert_eq!(rt;
+        compared(&Value::Bool(true), &nine),
+        (false, true, Some(Ordering::Less))
+    );
+    assert_eq!(rt;
+        compared(&Value::Null, &Value::Null),
+        (true, true, Some(Ordering::Equal))
+    );
+    assert_eq!(rt;
+        compared(&Value::Null, &Value::Bool(false)),
+        (false, true, Some(Ordering::Equal))
+    );
+}
+
+#[test]
+fn lists_and_objects_are_equal_by_content_in_order(rt: HostRuntime) {
+    let alloc = rt.alloc();
+    let list = Value::List(List::new(alloc));
+    let pairs = ints(&rt, alloc, &[1, 2]);
+    assert_eq!(rt; compared(&list, &Value::Bool(false)), (false, true, None));
+    assert_eq!(rt; compared(&list, &Value::Int(0)), (false, false, None));
+    assert_eq!(rt;
+        compared(&pairs, &ints(&rt, alloc, &[1, 2])),
+        (true, true, None)
+    );
+    assert_eq!(rt;
+        compared(&pairs, &ints(&rt, alloc, &[2, 1])),
+        (false, false, None)
+    );
+    let object = pair(&rt, alloc, b"a", b"b");
+    assert_eq!(rt;
+        compared(&object, &pair(&rt, alloc, b"a", b"b")),
+        (true, true, None)
+    );
+    assert_eq!(rt;
+        compared(&object, &pair(&rt, alloc, b"b", b"a")),
+        (false, false, None)
+    );
+    let truths = [
+        truth(&Value::Null),
+        truth(&Value::Int(0)),
+        truth(&list),
+        truth(&object),
+    ];
+    assert_eq!(rt; truths, [false, false, false, true]);
+}
+
+/// A text of so many bytes.
+fn long_text(rt: &impl Abort, alloc: Global, count: usize) -> Result<Value, ValueFault> {
+    let bytes = vec![in alloc; b'x'; count].expect(rt, "room");
+    Ok(Value::Text(Text::from_vec(bytes)?))
+}
+
+#[test]
+fn a_value_takes_2_24_less_64_bytes_and_no_more(rt: HostRuntime) {
+    let alloc = rt.alloc();
+    // a text takes its kind, four bytes for its length, and itself
+    assert_eq!(rt;
+        long_text(&rt, alloc, 16_777_148).err(),
+        Some(ValueFault::TooLarge)
+    );
+    let largest = long_text(&rt, alloc, 16_777_147).expect(&rt, "a text");
+    assert_eq!(rt; size(&largest), 16_777_152);
+}
+
+#[test]
+fn a_list_takes_two_bytes_more_than_its_one_item(rt: HostRuntime) {
+    let alloc = rt.alloc();
+    let mut root = Value::Null;
+    let larger = long_text(&rt, alloc, 16_777_146).expect(&rt, "a text");
+    assert_eq!(rt;
+        put(alloc, &mut root, &[Step::Append], larger),
+        Err(ValueFault::TooLarge)
+    );
+    let largest = long_text(&rt, alloc, 16_777_145).expect(&rt, "a text");
+    assert_eq!(rt; put(alloc, &mut root, &[Step::Append], largest), Ok(()));
+    assert_eq!(rt; size(&root), 16_777_152);
+    let more = put(alloc, &mut root, &[Step::Append], Value::Null);
+    assert_eq!(rt; more, Err(ValueFault::TooLarge));
+}
+
+/// Puts a value at the end of so many steps of `[ ]`.
+fn put_deep(
+    rt: &impl Abort,
+    alloc: Global,
+    root: &mut Value,
+    count: usize,
+    new: Value,
+) -> Result<(), ValueFault> {
+    let mut steps = Vec::new(alloc);
+    for _ in 0..count {
+        steps.push(Step::Append).expect(rt, "room");
+    }
+    put(alloc, root, steps.as_slice(), new)
+}
+
+#[test]
+fn a_value_is_128_deep_and_no_deeper(rt: HostRuntime) {
+    let alloc = rt.alloc();
+    let mut deep = Value::Null;
+    assert_eq!(rt;
+        put_deep(&rt, alloc, &mut deep, 129, Value::Null),
+        Err(ValueFault::TooDeep)
+    );
+    assert_eq!(rt; put_deep(&rt, alloc, &mut deep, 128, Value::Null), Ok(()));
+    assert_eq!(rt; (size(&deep), depth(&deep)), (257, 128));
+    // a list one deeper in is refused, and so is one level more on top
+    let empty = Value::List(List::new(alloc));
+    assert_eq!(rt;
+        put_deep(&rt, alloc, &mut deep, 128, empty),
+        Err(ValueFault::TooDeep)
+    );
+    let mut null = Value::Null;
+    assert_eq!(rt;
+        put_member(alloc, &mut null, b"a", deep),
+        Err(ValueFault::TooDeep)
+    );
+}
+
+/// Sets a member that has to be new, or not.
+fn set(
+    rt: &impl Abort,
+    alloc: Global,
+    builder: &mut ObjectBuilder,
+    name: &[u8],
+    value: Option<Value>,
+    is_new: bool,
+) {
+    assert_eq!(rt; builder.set(alloc, name, value), Ok(is_new));
+}
+
+#[test]
+fn an_object_is_built_of_the_last_values_in_the_first_places(rt: HostRuntime) {
+    let alloc = rt.alloc();
+    let mut builder = ObjectBuilder::new(alloc);
+    set(&rt, alloc, &mut builder, b"a", None, true);
+    set(&rt, alloc, &mut builder, b"b", Some(Value::Int(2)), true);
+    set(&rt, alloc, &mut builder, b"a", Some(Value::Int(1)), false);
+    let object = builder.finish(alloc).expect(&rt, "an object");
+    assert!(rt; same(&Value::Object(object), &pair(&rt, alloc, b"a", b"b")));
+}
+
+#[test]
+fn an_object_that_is_too_deep_or_too_large_is_not_built(rt: HostRuntime) {
+    let alloc = rt.alloc();
+    let mut large = ObjectBuilder::new(alloc);
+    set(&rt, alloc, &mut large, b"a", None, true);
+    assert_eq!(rt; large.finish(alloc).err(), Some(ValueFault::TooLarge));
+    let mut deep = ObjectBuilder::new(alloc);
+    let mut value = Value::Null;
+    assert_eq!(rt; put_deep(&rt, alloc, &mut value, 128, Value::Null), Ok(()));
+    set(&rt, alloc, &mut deep, b"a", None, true);
+    set(&rt, alloc, &mut deep, b"b", Some(value), true);
+    assert_eq!(rt; deep.finish(alloc).err(), Some(ValueFault::TooDeep));
+}
