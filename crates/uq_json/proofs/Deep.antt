@@ -7,7 +7,7 @@ use Rattle.uq_value.specs.Data.{Bytes}
 use Rattle.uq_json.specs.Grammar.{Language, is_blank, AreBlanks}
 use Rattle.uq_json.specs.Reading.{is_next, skip_blanks}
 use Rattle.uq_json.proofs.Steps.{if_true, if_false}
-use Rattle.uq_json.proofs.Numbers.{NoDigit, digit_no}
+use Rattle.uq_json.proofs.Scalars.{NoDigit, digit_no}
 
 abbrev pub IsOpening : ℕ → Type 0
 IsOpening c = (c ≡ 0x5b) ⊎ (c ≡ 0x7b)

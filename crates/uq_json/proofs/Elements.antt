@@ -9,7 +9,7 @@ use Rattle.uq_json.specs.declared.error.JsonFault.TheVariants.{NotJson, TooDeep}
 use Rattle.uq_json.proofs.Steps.{bind_ok, bind_err, chosen, if_true, if_false, Takes, no_ok}
 use Rattle.uq_json.proofs.Faults.{IsShallow, string_shallow, behind_shallow, then_shallow, ok_shallow, scalar_shallow}
 use Rattle.uq_json.proofs.Pieces.{string_takes, string_again}
-use Rattle.uq_json.proofs.Numbers.{NoDigit, scalar_takes, scalar_begins, scalar_again}
+use Rattle.uq_json.proofs.Scalars.{NoDigit, scalar_takes, scalar_begins, scalar_again}
 use Rattle.uq_json.proofs.Deep.{IsOpening, Deep, Ends, blanks_of, blanks_split, are_blanks, skip_past, skip_none, skip_ends, skip_again, not_blank, opening_not_blank, ends_no_digit}
 use Rattle.uq_json.proofs.Listing.{IsClose, bracketed_take, bracketed_again, deep_bracketed}
 
@@ -26,7 +26,7 @@ padded_take {A = A} L r takes ts x e =
     record {
       used = blanks_of ts ++ (taken.used ++ blanks_of y.1);
       split = blanks_split ts ∙ ap (λ (w : Bytes). blanks_of ts ++ w) (taken.split ∙ ap (λ (w : Bytes). taken.used ++ w) (blanks_split y.1 ∙ ap (λ (w : Bytes). blanks_of y.1 ++ w) rest) ∙ sym (append_assoc taken.used (blanks_of y.1) x.1))
-        ∙ sym (append_assoc (blanks_of ts) (taken.used ++ blanks_of y.1) x.1);
+          ∙ sym (append_assoc (blanks_of ts) (taken.used ++ blanks_of y.1) x.1);
       reads = record { before = blanks_of ts; middle = taken.used; after = blanks_of y.1; parts = refl; blanks_before = are_blanks ts; blanks_after = are_blanks y.1; inside = subst (λ (a : A). L taken.used a) same taken.reads };
     }
 
@@ -63,9 +63,9 @@ padded_apart L P begins c apart w a rest is =
 
 padded_deep_is : {A : Type 0} (q : Read A) → (q >>= λ y. Ok (y.0, skip_blanks y.1)) ≡ Err TooDeep → q ≡ Err TooDeep
 padded_deep_is {A = A} q e = elim (bind_err q (λ y. Ok (y.0, skip_blanks y.1)) TooDeep e) [
-    | inl is ↦ is
-    | inr (x, is, no') ↦ absurd (ok_shallow {A = A} (x.0, skip_blanks x.1) no')
-  ]
+  | inl is ↦ is
+  | inr (x, is, no') ↦ absurd (ok_shallow {A = A} (x.0, skip_blanks x.1) no')
+]
 
 pub padded_deep : {A : Type 0} (L more : Language A) (r : Bytes → Read A)
     → ((ts : Bytes) → r ts ≡ Err TooDeep → Deep L more (λ seen opening. (x : Bytes) → r (seen ++ opening ∷ x) ≡ Err TooDeep) ts)
@@ -76,11 +76,13 @@ padded_deep {A = A} L more r deep ts e =
     let b = d.beyond in
     let blanks = blanks_of ts in
     record {
-      seen = blanks ++ d.seen; opening = d.opening; after = d.after;
+      seen = blanks ++ d.seen;
+      opening = d.opening;
+      after = d.after;
       split = blanks_split ts ∙ ap (λ (v : Bytes). blanks ++ v) d.split ∙ sym (append_assoc blanks d.seen (d.opening ∷ d.after));
       is_opening = d.is_opening;
       stops = λ x. ap (λ (v : Bytes). r v >>= λ y. Ok (y.0, skip_blanks y.1)) (ap skip_blanks (append_assoc blanks d.seen (d.opening ∷ x)) ∙ skip_again ts d.seen d.opening d.after x (opening_not_blank d.opening d.is_opening) d.split)
-        ∙ ap (λ (q : Read A). q >>= λ y. Ok (y.0, skip_blanks y.1)) (d.stops x);
+          ∙ ap (λ (q : Read A). q >>= λ y. Ok (y.0, skip_blanks y.1)) (d.stops x);
       within = (w.0, w.1, record { before = blanks; middle = d.seen ++ w.0; after = []; parts = append_assoc blanks d.seen w.0 ∙ ap (λ (v : Bytes). blanks ++ v) (sym (no_after (d.seen ++ w.0))); blanks_before = are_blanks ts; blanks_after = refl; inside = w.2 });
       beyond = (b.0, b.1, record { before = blanks; middle = d.seen ++ d.opening ∷ b.0; after = []; parts = append_assoc blanks d.seen (d.opening ∷ b.0) ∙ ap (λ (v : Bytes). blanks ++ v) (sym (no_after (d.seen ++ d.opening ∷ b.0))); blanks_before = are_blanks ts; blanks_after = refl; inside = b.2 });
     }
@@ -103,11 +105,11 @@ string_begins w bs is = record { first = 0x22; others = is.body; is = is.opened;
 behind_is : (c : ℕ) (ts : Bytes) (x : Unit {0} × Bytes) → behind c ts ≡ Ok x → ts ≡ c ∷ x.1
 behind_is c [] x e = absurd (no_ok NotJson x e)
 behind_is c (d ∷ ds) x e = elim (chosen (eqb d c) (Ok (tt, ds)) (Err NotJson) (Ok x) e) [
-    | inl both ↦
-        let e2 : ◌≡◌ {A = Read (Unit {0})} (Ok (tt, ds)) (Ok x) = both.1 in
-        let rest : ds ≡ x.1 = cc in ap (λ (n : ℕ). n ∷ ds) (eqb-true d c both.0) ∙ ap (λ (w : Bytes). c ∷ w) rest
-    | inr both ↦ absurd (no_ok NotJson x both.1)
-  ]
+  | inl both ↦
+      let e2 : ◌≡◌ {A = Read (Unit {0})} (Ok (tt, ds)) (Ok x) = both.1 in
+      let rest : ds ≡ x.1 = cc in ap (λ (n : ℕ). n ∷ ds) (eqb-true d c both.0) ∙ ap (λ (w : Bytes). c ∷ w) rest
+  | inr both ↦ absurd (no_ok NotJson x both.1)
+]
 
 name_again : (w bs rest : Bytes) → Padded IsString w bs → padded string_at (w ++ 0x3a ∷ rest) ≡ Ok (bs, 0x3a ∷ rest)
 name_again w bs rest is = padded_again IsString string_at IsQuote string_begins (λ v b tail s end. string_again v b tail s) w bs (0x3a ∷ rest) is (refl, refl)
@@ -120,13 +122,12 @@ member_apart L w m rest is =
     ap (λ (v : Bytes). is_next 0x7d (skip_blanks v)) (ap (λ (v : Bytes). v ++ rest) is.parts ∙ append_assoc is.name (0x3a ∷ is.rest) rest)
     ∙ padded_apart IsString IsQuote string_begins 0x7d (λ d e. omega (arith, e)) is.name m.0 (0x3a ∷ (is.rest ++ rest)) is.is_name
 
-abbrev with_value : (Bytes → Read Data) → Bytes → Bytes → Read (Bytes × Data)
+abbrev pub with_value : (Bytes → Read Data) → Bytes → Bytes → Read (Bytes × Data)
 with_value r name ts = r ts >>= λ d. Ok ((name, d.0), d.1)
 
 module _ (L : Language Data) (r : Bytes → Read Data)
     (takes : (ts : Bytes) (x : Data × Bytes) → r ts ≡ Ok x → Takes L ts x)
     (again : (w : Bytes) (d : Data) (rest : Bytes) → L w d → Ends rest → r (w ++ rest) ≡ Ok (d, rest)) where
-
   pub member_take : (ts : Bytes) (x : (Bytes × Data) × Bytes) → member_at r ts ≡ Ok x → Takes (IsMember L) ts x
   member_take ts x e =
       let first = bind_ok (padded string_at ts) (λ name. behind 0x3a name.1 >>= λ y. r y.1 >>= λ d. Ok ((name.0, d.0), d.1)) x e in
@@ -163,7 +164,6 @@ module _ (L : Language Data) (r : Bytes → Read Data)
 
   module _ (more : Language Data) (wider : (w : Bytes) (d : Data) → L w d → more w d)
       (deep : (ts : Bytes) → r ts ≡ Err TooDeep → Deep L more (λ seen opening. (x : Bytes) → r (seen ++ opening ∷ x) ≡ Err TooDeep) ts) where
-
     pub member_deep : (ts : Bytes) → member_at r ts ≡ Err TooDeep → Deep (IsMember L) (IsMember more) (λ seen opening. (x : Bytes) → member_at r (seen ++ opening ∷ x) ≡ Err TooDeep) ts
     member_deep ts e = by_name (bind_err (padded string_at ts) (λ name. behind 0x3a name.1 >>= λ y. r y.1 >>= λ d. Ok ((name.0, d.0), d.1)) TooDeep e)
       where
@@ -174,12 +174,14 @@ module _ (L : Language Data) (r : Bytes → Read Data)
             let w = d.within in
             let b = d.beyond in
             record {
-              seen = named.used ++ 0x3a ∷ d.seen; opening = d.opening; after = d.after;
+              seen = named.used ++ 0x3a ∷ d.seen;
+              opening = d.opening;
+              after = d.after;
               split = named.split ∙ ap (λ (v : Bytes). named.used ++ v) (behind_is 0x3a name.1 y colon ∙ ap (λ (v : Bytes). 0x3a ∷ v) d.split) ∙ sym (append_assoc named.used (0x3a ∷ d.seen) (d.opening ∷ d.after));
               is_opening = d.is_opening;
               stops = λ x. ap (member_at r) (append_assoc named.used (0x3a ∷ d.seen) (d.opening ∷ x))
-                ∙ ap (λ (q : Read Bytes). q >>= λ name. behind 0x3a name.1 >>= λ y. r y.1 >>= λ d. Ok ((name.0, d.0), d.1)) (name_again named.used name.0 (d.seen ++ d.opening ∷ x) named.reads)
-                ∙ ap (λ (q : Read Data). q >>= λ d. Ok ((name.0, d.0), d.1)) (d.stops x);
+                  ∙ ap (λ (q : Read Bytes). q >>= λ name. behind 0x3a name.1 >>= λ y. r y.1 >>= λ d. Ok ((name.0, d.0), d.1)) (name_again named.used name.0 (d.seen ++ d.opening ∷ x) named.reads)
+                  ∙ ap (λ (q : Read Data). q >>= λ d. Ok ((name.0, d.0), d.1)) (d.stops x);
               within = (w.0, (name.0, w.1), record { name = named.used; rest = d.seen ++ w.0; parts = append_assoc named.used (0x3a ∷ d.seen) w.0; is_name = named.reads; is_value = w.2 });
               beyond = (b.0, (name.0, b.1), record { name = named.used; rest = d.seen ++ d.opening ∷ b.0; parts = append_assoc named.used (0x3a ∷ d.seen) (d.opening ∷ b.0); is_name = named.reads; is_value = b.2 });
             }

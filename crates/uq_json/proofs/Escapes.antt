@@ -57,7 +57,7 @@ control b h =
     record {
       piece = code (hex_number 0x30 0x30 (hex_digit (b / 16)) (hex_digit (b % 16)));
       spells = by_number 0x30 0x30 (hex_digit (b / 16)) (hex_digit (b % 16)) refl
-      (both (is_hex (hex_digit (b / 16))) (is_hex (hex_digit (b % 16))) (lt-ltb (digit_value (hex_digit (b / 16))) 16 (omega (arith, high))) (lt-ltb (digit_value (hex_digit (b % 16))) 16 (omega (arith, low)))) refl;
+          (both (is_hex (hex_digit (b / 16))) (is_hex (hex_digit (b % 16))) (lt-ltb (digit_value (hex_digit (b / 16))) 16 (omega (arith, high))) (lt-ltb (digit_value (hex_digit (b % 16))) 16 (omega (arith, low)))) refl;
       alone = λ ps. control_alone (hex_number 0x30 0x30 (hex_digit (b / 16)) (hex_digit (b % 16))) ps small ∙ ap (λ (n : ℕ). n ∷ bytes_of ps) value;
     }
   where
@@ -88,10 +88,11 @@ inside_quoted : (bs : Bytes) → (ps : List Piece) × Inside (flat_map escaped b
 inside_quoted [] = ([], refl, refl)
 inside_quoted (b ∷ bs) =
     let one = escapes b in
-    let others = inside_quoted bs in
-    (one.piece ∷ others.0,
+    let others = inside_quoted bs in (
+      one.piece ∷ others.0,
       (escaped b, flat_map escaped bs ++ 0x22 ∷ [], ap (λ (w : Bytes). w ++ 0x22 ∷ []) (flat_map-cons escaped b bs) ∙ append_assoc (escaped b) (flat_map escaped bs) (0x22 ∷ []), one.spells, others.1),
-      one.alone others.0 ∙ ap (λ (w : Bytes). b ∷ w) others.2)
+      one.alone others.0 ∙ ap (λ (w : Bytes). b ∷ w) others.2,
+    )
 
 pub quoted_spells : (bs : Bytes) → IsString (quoted bs) bs
 quoted_spells bs = let inside = inside_quoted bs in record { body = flat_map escaped bs ++ 0x22 ∷ []; pieces = inside.0; opened = refl; inside = inside.1; spelled = inside.2 }

@@ -5,10 +5,12 @@ pub mod Faults
 pub mod Wholes
 pub mod Escapes
 pub mod Parts
-pub mod Numbers
+pub mod Scalars
 pub mod Deep
 pub mod Listing
 pub mod Elements
 pub mod Rooms
 pub mod Agreement
 pub mod Verdicts
+pub mod Decimals
+pub mod Gathering

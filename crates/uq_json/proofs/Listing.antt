@@ -22,7 +22,6 @@ comma_ends cs = (refl, refl)
 module _ {A : Type 0} (L : Language A) (r : Bytes → Read A) (close : ℕ) (is_close : IsClose close)
     (takes : (ts : Bytes) (x : A × Bytes) → r ts ≡ Ok x → Takes L ts x)
     (again : (w : Bytes) (a : A) (rest : Bytes) → L w a → Ends rest → r (w ++ rest) ≡ Ok (a, rest)) where
-
   -- ---- what is read is spelled so
 
   others_take : (more : Bytes → Read (List A)) → ((ts : Bytes) (y : List A × Bytes) → more ts ≡ Ok y → Takes (Listed L close) ts y) → (first : Bytes) (a : A) → L first a
@@ -43,17 +42,17 @@ module _ {A : Type 0} (L : Language A) (r : Bytes → Read A) (close : ℕ) (is_
               reads = subst (λ (xs : List A). Listed L close (first ++ 0x2c ∷ others.used) xs) all (first, 0x2c ∷ others.used, refl, reads, inr (others.used, refl, others.reads));
             }
         | inr both ↦ elim (chosen (eqb c close) (Ok (a ∷ [], cs)) (Err NotJson) (Ok x) both.1) [
-            | inl closed ↦
-                let e2 : ◌≡◌ {A = Read (List A)} (Ok (a ∷ [], cs)) (Ok x) = closed.1 in
-                let all : a ∷ [] ≡ x.0 = cc in
-                let rest : cs ≡ x.1 = cc in
-                record {
-                  used = first ++ close ∷ [];
-                  split = ap (λ (n : ℕ). first ++ n ∷ cs) (eqb-true c close closed.0) ∙ ap (λ (w : Bytes). first ++ close ∷ w) rest ∙ sym (append_assoc first (close ∷ []) x.1);
-                  reads = subst (λ (xs : List A). Listed L close (first ++ close ∷ []) xs) all (first, close ∷ [], refl, reads, inl (refl, refl));
-                }
-            | inr open' ↦ absurd (no_ok NotJson x open'.1)
-          ]
+          | inl closed ↦
+              let e2 : ◌≡◌ {A = Read (List A)} (Ok (a ∷ [], cs)) (Ok x) = closed.1 in
+              let all : a ∷ [] ≡ x.0 = cc in
+              let rest : cs ≡ x.1 = cc in
+              record {
+                used = first ++ close ∷ [];
+                split = ap (λ (n : ℕ). first ++ n ∷ cs) (eqb-true c close closed.0) ∙ ap (λ (w : Bytes). first ++ close ∷ w) rest ∙ sym (append_assoc first (close ∷ []) x.1);
+                reads = subst (λ (xs : List A). Listed L close (first ++ close ∷ []) xs) all (first, close ∷ [], refl, reads, inl (refl, refl));
+              }
+          | inr open' ↦ absurd (no_ok NotJson x open'.1)
+        ]
       ]
 
   pub listed_take : (n : ℕ) (ts : Bytes) (x : List A × Bytes) → listed_within r close n ts ≡ Ok x → Takes (Listed L close) ts x
@@ -156,7 +155,11 @@ module _ {A : Type 0} (L : Language A) (r : Bytes → Read A) (close : ℕ) (is_
         let w = d.within in
         let b = d.beyond in
         record {
-          seen = d.seen; opening = d.opening; after = d.after; split = d.split; is_opening = d.is_opening;
+          seen = d.seen;
+          opening = d.opening;
+          after = d.after;
+          split = d.split;
+          is_opening = d.is_opening;
           stops = λ m x h. first_stops m d.seen d.opening x h (d.stops x);
           within = (w.0 ++ close ∷ [], w.1 ∷ [], (d.seen ++ w.0, close ∷ [], sym (append_assoc d.seen w.0 (close ∷ [])), w.2, inl (refl, refl)));
           beyond = (b.0 ++ close ∷ [], b.1 ∷ [], (d.seen ++ d.opening ∷ b.0, close ∷ [], sym (append_assoc d.seen (d.opening ∷ b.0) (close ∷ [])), b.2, inl (refl, refl)));
@@ -174,7 +177,9 @@ module _ {A : Type 0} (L : Language A) (r : Bytes → Read A) (close : ℕ) (is_
         let w = d.within in
         let b = d.beyond in
         record {
-          seen = front ++ 0x2c ∷ d.seen; opening = d.opening; after = d.after;
+          seen = front ++ 0x2c ∷ d.seen;
+          opening = d.opening;
+          after = d.after;
           split = ap (λ (v : Bytes). front ++ 0x2c ∷ v) d.split ∙ sym (append_assoc front (0x2c ∷ d.seen) (d.opening ∷ d.after));
           is_opening = d.is_opening;
           stops = λ m x h. later_stops m front d.seen a d.opening x reads h d.stops;
@@ -187,9 +192,9 @@ module _ {A : Type 0} (L : Language A) (r : Bytes → Read A) (close : ℕ) (is_
     others_deep n a (c ∷ cs) e =
         elim (chosen (eqb c 0x2c) (listed_within r close n cs >>= λ y. Ok (a ∷ y.0, y.1)) (cond (eqb c close) (Ok (a ∷ [], cs)) (Err NotJson)) (Err TooDeep) e) [
           | inl both ↦ elim (bind_err (listed_within r close n cs) (λ y. Ok (a ∷ y.0, y.1)) TooDeep both.1) [
-              | inl is ↦ (cs, ap (λ (k : ℕ). k ∷ cs) (eqb-true c 0x2c both.0), is)
-              | inr (x, is, no') ↦ absurd (ok_no (a ∷ x.0, x.1) no')
-            ]
+            | inl is ↦ (cs, ap (λ (k : ℕ). k ∷ cs) (eqb-true c 0x2c both.0), is)
+            | inr (x, is, no') ↦ absurd (ok_no (a ∷ x.0, x.1) no')
+          ]
           | inr both ↦ absurd (closed_no (eqb c close) both.1)
         ]
       where
@@ -228,10 +233,14 @@ module _ {A : Type 0} (L : Language A) (r : Bytes → Read A) (close : ℕ) (is_
               let w = d.within in
               let b = d.beyond in
               record {
-                seen = d.seen; opening = d.opening; after = d.after; split = d.split; is_opening = d.is_opening;
+                seen = d.seen;
+                opening = d.opening;
+                after = d.after;
+                split = d.split;
+                is_opening = d.is_opening;
                 stops = λ x. if_false (is_next close (skip_blanks (d.seen ++ d.opening ∷ x))) (Ok ([], drop 1 (skip_blanks (d.seen ++ d.opening ∷ x)))) (listed_within r close (suc (length (d.seen ++ d.opening ∷ x))) (d.seen ++ d.opening ∷ x))
-                  (same_next close d.seen d.opening x d.after (opening_not_blank d.opening d.is_opening) ∙ ap (λ (v : Bytes). is_next close (skip_blanks v)) (sym d.split) ∙ both.0)
-                  ∙ d.stops (suc (length (d.seen ++ d.opening ∷ x))) x (omega (arith, length-append d.seen (d.opening ∷ x)));
+                    (same_next close d.seen d.opening x d.after (opening_not_blank d.opening d.is_opening) ∙ ap (λ (v : Bytes). is_next close (skip_blanks v)) (sym d.split) ∙ both.0)
+                    ∙ d.stops (suc (length (d.seen ++ d.opening ∷ x))) x (omega (arith, length-append d.seen (d.opening ∷ x)));
                 within = (w.0, w.1, some (d.seen ++ w.0) refl w.2);
                 beyond = (b.0, b.1, some (d.seen ++ d.opening ∷ b.0) refl b.2);
               }

@@ -161,7 +161,7 @@ pub pair_text : (ms : Pairs) (at : ℕ) (name : Bytes) (v : Value) (before comma
     → comma ≡ before ++ comma_before at → named ≡ comma ++ quoted name → colon ≡ named ++ 0x3a ∷ [] → later ≡ colon ++ json (plain v) → later ≡ before ++ (comma_before at ++ member_text ms at)
 pair_text ms at name v before comma named colon later there first second third fourth =
     let all : comma ++ (quoted name ++ 0x3a ∷ json (plain v)) ≡ later = sym (fourth ∙ ap (λ (w : Bytes). w ++ json (plain v)) (third ∙ ap (λ (w : Bytes). w ++ 0x3a ∷ []) second)
-      ∙ append_assoc (comma ++ quoted name) (0x3a ∷ []) (json (plain v)) ∙ append_assoc comma (quoted name) (0x3a ∷ json (plain v))) in
+    ∙ append_assoc (comma ++ quoted name) (0x3a ∷ []) (json (plain v)) ∙ append_assoc comma (quoted name) (0x3a ∷ json (plain v))) in
     sym all ∙ ap (λ (w : Bytes). w ++ (quoted name ++ 0x3a ∷ json (plain v))) first ∙ append_assoc before (comma_before at) (quoted name ++ 0x3a ∷ json (plain v))
     ∙ ap (λ (w : Bytes). before ++ (comma_before at ++ w)) (sym (member_there ms at name v there).printed)
 

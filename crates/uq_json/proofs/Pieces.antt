@@ -23,16 +23,16 @@ letter_takes None c cs x is e = absurd (cc)
 
 unicode_takes : (ts : Bytes) (x : Piece × Bytes) → unicode_at ts ≡ Ok x → Takes IsPiece (0x5c ∷ 0x75 ∷ ts) x
 unicode_takes (p ∷ q ∷ r ∷ s ∷ rest) x e = elim (chosen (are_hex p q r s) (Ok (code (hex_number p q r s), rest)) (Err NotJson) (Ok x) e) [
-    | inl both ↦
-        let piece : code (hex_number p q r s) ≡ x.0 = cc in
-        let tail : rest ≡ x.1 = cc in
-        record {
-          used = 0x5c ∷ 0x75 ∷ p ∷ q ∷ r ∷ s ∷ [];
-          split = ap (λ (w : Bytes). 0x5c ∷ 0x75 ∷ p ∷ q ∷ r ∷ s ∷ w) tail;
-          reads = by_number p q r s refl both.0 (sym piece);
-        }
-    | inr both ↦ absurd (no_ok NotJson x both.1)
-  ]
+  | inl both ↦
+      let piece : code (hex_number p q r s) ≡ x.0 = cc in
+      let tail : rest ≡ x.1 = cc in
+      record {
+        used = 0x5c ∷ 0x75 ∷ p ∷ q ∷ r ∷ s ∷ [];
+        split = ap (λ (w : Bytes). 0x5c ∷ 0x75 ∷ p ∷ q ∷ r ∷ s ∷ w) tail;
+        reads = by_number p q r s refl both.0 (sym piece);
+      }
+  | inr both ↦ absurd (no_ok NotJson x both.1)
+]
 unicode_takes [] x e = absurd (cc)
 unicode_takes (p ∷ []) x e = absurd (cc)
 unicode_takes (p ∷ q ∷ []) x e = absurd (cc)
@@ -41,26 +41,26 @@ unicode_takes (p ∷ q ∷ r ∷ []) x e = absurd (cc)
 escape_takes : (ts : Bytes) (x : Piece × Bytes) → escape_at ts ≡ Ok x → Takes IsPiece (0x5c ∷ ts) x
 escape_takes [] x e = absurd (cc)
 escape_takes (c ∷ cs) x e = elim (chosen (eqb c 0x75) (unicode_at cs) (letter_or_fault (letter c) cs) (Ok x) e) [
-    | inl both ↦ subst (λ (n : ℕ). Takes IsPiece (0x5c ∷ n ∷ cs) x) (sym (eqb-true c 0x75 both.0)) (unicode_takes cs x both.1)
-    | inr both ↦ letter_takes (letter c) c cs x refl both.1
-  ]
+  | inl both ↦ subst (λ (n : ℕ). Takes IsPiece (0x5c ∷ n ∷ cs) x) (sym (eqb-true c 0x75 both.0)) (unicode_takes cs x both.1)
+  | inr both ↦ letter_takes (letter c) c cs x refl both.1
+]
 
 pub piece_takes : (c : ℕ) (cs : Bytes) (x : Piece × Bytes) → c ≢ 0x22 → piece_at (c ∷ cs) ≡ Ok x → Takes IsPiece (c ∷ cs) x
 piece_takes c cs x no_quote e = elim (chosen (eqb c 0x5c) (escape_at cs) (cond (leb 0x20 c) (Ok (byte c, cs)) (Err NotJson)) (Ok x) e) [
-    | inl both ↦ subst (λ (n : ℕ). Takes IsPiece (n ∷ cs) x) (sym (eqb-true c 0x5c both.0)) (escape_takes cs x both.1)
-    | inr both ↦ elim (chosen (leb 0x20 c) (Ok (byte c, cs)) (Err NotJson) (Ok x) both.1) [
-        | inl printed ↦
-            let e2 : ◌≡◌ {A = Read Piece} (Ok (byte c, cs)) (Ok x) = printed.1 in
-            let piece : byte c ≡ x.0 = cc in
-            let tail : cs ≡ x.1 = cc in
-            record {
-              used = c ∷ [];
-              split = ap (λ (w : Bytes). c ∷ w) tail;
-              reads = itself c refl (record { printed = leb-true 0x20 c printed.0; no_quote = no_quote; no_backslash = eqb-false c 0x5c both.0 }) (sym piece);
-            }
-        | inr others ↦ absurd (no_ok NotJson x others.1)
-      ]
+  | inl both ↦ subst (λ (n : ℕ). Takes IsPiece (n ∷ cs) x) (sym (eqb-true c 0x5c both.0)) (escape_takes cs x both.1)
+  | inr both ↦ elim (chosen (leb 0x20 c) (Ok (byte c, cs)) (Err NotJson) (Ok x) both.1) [
+    | inl printed ↦
+        let e2 : ◌≡◌ {A = Read Piece} (Ok (byte c, cs)) (Ok x) = printed.1 in
+        let piece : byte c ≡ x.0 = cc in
+        let tail : cs ≡ x.1 = cc in
+        record {
+          used = c ∷ [];
+          split = ap (λ (w : Bytes). c ∷ w) tail;
+          reads = itself c refl (record { printed = leb-true 0x20 c printed.0; no_quote = no_quote; no_backslash = eqb-false c 0x5c both.0 }) (sym piece);
+        }
+    | inr others ↦ absurd (no_ok NotJson x others.1)
   ]
+]
 
 letter_no_u : (c b : ℕ) → letter c ≡ Some b → eqb c 0x75 ≡ false
 letter_no_u c b e = ne_eqb c 0x75 (λ (is : c ≡ 0x75). let none : letter 0x75 ≡ Some b = subst (λ (n : ℕ). letter n ≡ Some b) is e in absurd (cc))
@@ -162,9 +162,9 @@ inside_takes ts x e =
 pub string_takes : (ts : Bytes) (x : Bytes × Bytes) → string_at ts ≡ Ok x → Takes IsString ts x
 string_takes [] x e = absurd (no_ok NotJson x e)
 string_takes (c ∷ cs) x e = elim (chosen (eqb c 0x22) (inside_at cs) (Err NotJson) (Ok x) (flat c cs ∙ e)) [
-    | inl both ↦ subst (λ (k : ℕ). Takes IsString (k ∷ cs) x) (sym (eqb-true c 0x22 both.0)) (inside_takes cs x both.1)
-    | inr both ↦ absurd (no_ok NotJson x both.1)
-  ]
+  | inl both ↦ subst (λ (k : ℕ). Takes IsString (k ∷ cs) x) (sym (eqb-true c 0x22 both.0)) (inside_takes cs x both.1)
+  | inr both ↦ absurd (no_ok NotJson x both.1)
+]
   where
     flat : (c : ℕ) (cs : Bytes) → cond (eqb c 0x22) (inside_at cs) (Err NotJson) ≡ string_at (c ∷ cs)
     flat c cs = by (eqb c 0x22)

@@ -8,7 +8,7 @@ use Rattle.uq_json.specs.declared.error.JsonFault.{JsonFault}
 use Rattle.uq_json.specs.declared.error.JsonFault.TheVariants.{NotJson, TooDeep}
 use Rattle.uq_json.proofs.Steps.{bind_ok, bind_err, chosen, if_true, if_false, Takes, no_ok}
 use Rattle.uq_json.proofs.Faults.{scalar_shallow, ok_shallow, no_json_shallow}
-use Rattle.uq_json.proofs.Numbers.{NoDigit, scalar_takes, scalar_begins, scalar_again}
+use Rattle.uq_json.proofs.Scalars.{NoDigit, scalar_takes, scalar_begins, scalar_again}
 use Rattle.uq_json.proofs.Deep.{Deep, Ends, not_blank}
 use Rattle.uq_json.proofs.Listing.{IsClose, bracketed_take, bracketed_again, deep_bracketed}
 use Rattle.uq_json.proofs.Elements.{First, padded_take, padded_again, padded_apart, padded_deep, padded_wider, member_take, member_again, member_apart, member_deep, member_wider}
@@ -39,12 +39,12 @@ value_first L w d (of_object ms is value) = bracket_first (IsMember L) 0x7b 0x7d
 flat_takes : (ts : Bytes) (x : Data × Bytes) → value_at too_deep too_deep ts ≡ Ok x → Takes IsScalar ts x
 flat_takes [] x e = absurd (no_ok NotJson x e)
 flat_takes (c ∷ cs) x e = elim (chosen (eqb c 0x5b) (Err TooDeep) (cond (eqb c 0x7b) (Err TooDeep) (scalar_at (c ∷ cs))) (Ok x) e) [
-    | inl both ↦ absurd (no_ok TooDeep x both.1)
-    | inr both ↦ elim (chosen (eqb c 0x7b) (Err TooDeep) (scalar_at (c ∷ cs)) (Ok x) both.1) [
-        | inl object' ↦ absurd (no_ok TooDeep x object'.1)
-        | inr scalar ↦ scalar_takes (c ∷ cs) x scalar.1
-      ]
+  | inl both ↦ absurd (no_ok TooDeep x both.1)
+  | inr both ↦ elim (chosen (eqb c 0x7b) (Err TooDeep) (scalar_at (c ∷ cs)) (Ok x) both.1) [
+    | inl object' ↦ absurd (no_ok TooDeep x object'.1)
+    | inr scalar ↦ scalar_takes (c ∷ cs) x scalar.1
   ]
+]
 
 scalar_value : (in_list in_object : Bytes → Read Data) (w : Bytes) (d : Data) (rest : Bytes) → IsScalar w d → NoDigit rest → value_at in_list in_object (w ++ rest) ≡ Ok (d, rest)
 scalar_value in_list in_object w d rest is end =
@@ -60,14 +60,24 @@ Stopping r seen opening = (x : Bytes) → r (seen ++ opening ∷ x) ≡ Err TooD
 
 opens_list : (L : Language Data) (cs : Bytes) → Deep IsScalar (IsValue L) (Stopping (value_at too_deep too_deep)) (0x5b ∷ cs)
 opens_list L cs = record {
-  seen = []; opening = 0x5b; after = cs; split = refl; is_opening = inl refl; stops = λ x. refl;
+  seen = [];
+  opening = 0x5b;
+  after = cs;
+  split = refl;
+  is_opening = inl refl;
+  stops = λ x. refl;
   within = (codes "null", null, of_null refl refl);
   beyond = (0x5d ∷ [], list [], of_list [] (none [] refl refl refl) refl);
 }
 
 opens_object : (L : Language Data) (cs : Bytes) → Deep IsScalar (IsValue L) (Stopping (value_at too_deep too_deep)) (0x7b ∷ cs)
 opens_object L cs = record {
-  seen = []; opening = 0x7b; after = cs; split = refl; is_opening = inr refl; stops = λ x. refl;
+  seen = [];
+  opening = 0x7b;
+  after = cs;
+  split = refl;
+  is_opening = inr refl;
+  stops = λ x. refl;
   within = (codes "null", null, of_null refl refl);
   beyond = (0x7d ∷ [], object (merged []), of_object [] (none [] refl refl refl) refl);
 }
@@ -75,12 +85,12 @@ opens_object L cs = record {
 flat_deep : (L : Language Data) (ts : Bytes) → value_at too_deep too_deep ts ≡ Err TooDeep → Deep IsScalar (IsValue L) (Stopping (value_at too_deep too_deep)) ts
 flat_deep L [] e = absurd (no_json_shallow {A = Data} e)
 flat_deep L (c ∷ cs) e = elim (chosen (eqb c 0x5b) (Err TooDeep) (cond (eqb c 0x7b) (Err TooDeep) (scalar_at (c ∷ cs))) (Err TooDeep) e) [
-    | inl both ↦ subst (λ (n : ℕ). Deep IsScalar (IsValue L) (Stopping (value_at too_deep too_deep)) (n ∷ cs)) (sym (eqb-true c 0x5b both.0)) (opens_list L cs)
-    | inr both ↦ elim (chosen (eqb c 0x7b) (Err TooDeep) (scalar_at (c ∷ cs)) (Err TooDeep) both.1) [
-        | inl object' ↦ subst (λ (n : ℕ). Deep IsScalar (IsValue L) (Stopping (value_at too_deep too_deep)) (n ∷ cs)) (sym (eqb-true c 0x7b object'.0)) (opens_object L cs)
-        | inr scalar ↦ absurd (scalar_shallow (c ∷ cs) scalar.1)
-      ]
+  | inl both ↦ subst (λ (n : ℕ). Deep IsScalar (IsValue L) (Stopping (value_at too_deep too_deep)) (n ∷ cs)) (sym (eqb-true c 0x5b both.0)) (opens_list L cs)
+  | inr both ↦ elim (chosen (eqb c 0x7b) (Err TooDeep) (scalar_at (c ∷ cs)) (Err TooDeep) both.1) [
+    | inl object' ↦ subst (λ (n : ℕ). Deep IsScalar (IsValue L) (Stopping (value_at too_deep too_deep)) (n ∷ cs)) (sym (eqb-true c 0x7b object'.0)) (opens_object L cs)
+    | inr scalar ↦ absurd (scalar_shallow (c ∷ cs) scalar.1)
   ]
+]
 
 -- ---- a value of one level more
 
@@ -99,10 +109,10 @@ value_wider L more wider w d (of_list ds is value) = of_list ds (bracket_wider L
 value_wider L more wider w d (of_object ms is value) = of_object ms (bracket_wider (IsMember L) (IsMember more) 0x7b 0x7d (member_wider L more wider) w ms is) value
 
 -- what is known of reading what stands within
-record Known (L : Language Data) (r : Bytes → Read Data) : Type 0 where
-  takes : (ts : Bytes) (x : Data × Bytes) → r ts ≡ Ok x → Takes L ts x
-  again : (w : Bytes) (d : Data) (rest : Bytes) → L w d → Ends rest → r (w ++ rest) ≡ Ok (d, rest)
-  apart : (w : Bytes) (d : Data) (rest : Bytes) → L w d → is_next 0x5d (skip_blanks (w ++ rest)) ≡ false
+pub record Known (L : Language Data) (r : Bytes → Read Data) : Type 0 where
+  pub takes : (ts : Bytes) (x : Data × Bytes) → r ts ≡ Ok x → Takes L ts x
+  pub again : (w : Bytes) (d : Data) (rest : Bytes) → L w d → Ends rest → r (w ++ rest) ≡ Ok (d, rest)
+  pub apart : (w : Bytes) (d : Data) (rest : Bytes) → L w d → is_next 0x5d (skip_blanks (w ++ rest)) ≡ false
 
 module _ (L : Language Data) (r : Bytes → Read Data) (known : Known L r) where
   abbrev value : Bytes → Read Data
@@ -126,7 +136,7 @@ module _ (L : Language Data) (r : Bytes → Read Data) (known : Known L r) where
       rest_of (Ok z) = z.1
       rest_of (Err w) = []
 
-  object_takes : (cs : Bytes) (x : Data × Bytes) → object_at r cs ≡ Ok x → Takes (IsValue L) (0x7b ∷ cs) x
+  pub object_takes : (cs : Bytes) (x : Data × Bytes) → object_at r cs ≡ Ok x → Takes (IsValue L) (0x7b ∷ cs) x
   object_takes cs x e =
       let found = bind_ok (bracketed_at (member_at r) 0x7d cs) (λ y. Ok (object (merged y.0), y.1)) x e in
       let y = found.0 in
@@ -147,12 +157,12 @@ module _ (L : Language Data) (r : Bytes → Read Data) (known : Known L r) where
   value_takes : (ts : Bytes) (x : Data × Bytes) → value ts ≡ Ok x → Takes (IsValue L) ts x
   value_takes [] x e = absurd (no_ok NotJson x e)
   value_takes (c ∷ cs) x e = elim (chosen (eqb c 0x5b) (list_at r cs) (cond (eqb c 0x7b) (object_at r cs) (scalar_at (c ∷ cs))) (Ok x) e) [
-      | inl both ↦ subst (λ (n : ℕ). Takes (IsValue L) (n ∷ cs) x) (sym (eqb-true c 0x5b both.0)) (list_takes cs x both.1)
-      | inr both ↦ elim (chosen (eqb c 0x7b) (object_at r cs) (scalar_at (c ∷ cs)) (Ok x) both.1) [
-          | inl object' ↦ subst (λ (n : ℕ). Takes (IsValue L) (n ∷ cs) x) (sym (eqb-true c 0x7b object'.0)) (object_takes cs x object'.1)
-          | inr scalar ↦ let taken = scalar_takes (c ∷ cs) x scalar.1 in record { used = taken.used; split = taken.split; reads = of_scalar taken.reads }
-        ]
+    | inl both ↦ subst (λ (n : ℕ). Takes (IsValue L) (n ∷ cs) x) (sym (eqb-true c 0x5b both.0)) (list_takes cs x both.1)
+    | inr both ↦ elim (chosen (eqb c 0x7b) (object_at r cs) (scalar_at (c ∷ cs)) (Ok x) both.1) [
+      | inl object' ↦ subst (λ (n : ℕ). Takes (IsValue L) (n ∷ cs) x) (sym (eqb-true c 0x7b object'.0)) (object_takes cs x object'.1)
+      | inr scalar ↦ let taken = scalar_takes (c ∷ cs) x scalar.1 in record { used = taken.used; split = taken.split; reads = of_scalar taken.reads }
     ]
+  ]
 
   bracket_shown : {A : Type 0} (K : Language A) (opening close : ℕ) (w : Bytes) (xs : List A) → Bracketed K opening close w xs → (cs : Bytes) × (w ≡ opening ∷ cs)
   bracket_shown K opening close w xs (none blanks is are nothing) = (blanks ++ close ∷ [], is)
@@ -182,7 +192,11 @@ module _ (L : Language Data) (r : Bytes → Read Data) (known : Known L r) where
             let w = d.within in
             let b = d.beyond in
             record {
-              seen = 0x5b ∷ d.seen; opening = d.opening; after = d.after; split = ap (λ (v : Bytes). 0x5b ∷ v) d.split; is_opening = d.is_opening;
+              seen = 0x5b ∷ d.seen;
+              opening = d.opening;
+              after = d.after;
+              split = ap (λ (v : Bytes). 0x5b ∷ v) d.split;
+              is_opening = d.is_opening;
               stops = λ x. ap (λ (q : Read Datas). q >>= λ y. Ok (list y.0, y.1)) (d.stops x);
               within = (w.0, list w.1, of_list w.1 w.2 refl);
               beyond = (b.0, list b.1, of_list b.1 b.2 refl);
@@ -198,7 +212,11 @@ module _ (L : Language Data) (r : Bytes → Read Data) (known : Known L r) where
             let w = d.within in
             let b = d.beyond in
             record {
-              seen = 0x7b ∷ d.seen; opening = d.opening; after = d.after; split = ap (λ (v : Bytes). 0x7b ∷ v) d.split; is_opening = d.is_opening;
+              seen = 0x7b ∷ d.seen;
+              opening = d.opening;
+              after = d.after;
+              split = ap (λ (v : Bytes). 0x7b ∷ v) d.split;
+              is_opening = d.is_opening;
               stops = λ x. ap (λ (q : Read Pairs). q >>= λ y. Ok (object (merged y.0), y.1)) (d.stops x);
               within = (w.0, object (merged w.1), of_object w.1 w.2 refl);
               beyond = (b.0, object (merged b.1), of_object b.1 b.2 refl);
@@ -207,12 +225,12 @@ module _ (L : Language Data) (r : Bytes → Read Data) (known : Known L r) where
     value_deep : (ts : Bytes) → value ts ≡ Err TooDeep → Deep (IsValue L) (IsValue more) (Stopping value) ts
     value_deep [] e = absurd (no_json_shallow {A = Data} e)
     value_deep (c ∷ cs) e = elim (chosen (eqb c 0x5b) (list_at r cs) (cond (eqb c 0x7b) (object_at r cs) (scalar_at (c ∷ cs))) (Err TooDeep) e) [
-        | inl both ↦ subst (λ (n : ℕ). Deep (IsValue L) (IsValue more) (Stopping value) (n ∷ cs)) (sym (eqb-true c 0x5b both.0)) (list_deep cs both.1)
-        | inr both ↦ elim (chosen (eqb c 0x7b) (object_at r cs) (scalar_at (c ∷ cs)) (Err TooDeep) both.1) [
-            | inl object' ↦ subst (λ (n : ℕ). Deep (IsValue L) (IsValue more) (Stopping value) (n ∷ cs)) (sym (eqb-true c 0x7b object'.0)) (object_deep cs object'.1)
-            | inr scalar ↦ absurd (scalar_shallow (c ∷ cs) scalar.1)
-          ]
+      | inl both ↦ subst (λ (n : ℕ). Deep (IsValue L) (IsValue more) (Stopping value) (n ∷ cs)) (sym (eqb-true c 0x5b both.0)) (list_deep cs both.1)
+      | inr both ↦ elim (chosen (eqb c 0x7b) (object_at r cs) (scalar_at (c ∷ cs)) (Err TooDeep) both.1) [
+        | inl object' ↦ subst (λ (n : ℕ). Deep (IsValue L) (IsValue more) (Stopping value) (n ∷ cs)) (sym (eqb-true c 0x7b object'.0)) (object_deep cs object'.1)
+        | inr scalar ↦ absurd (scalar_shallow (c ∷ cs) scalar.1)
       ]
+    ]
 
 -- ---- any number of levels
 
@@ -221,7 +239,7 @@ unfolding Spells
 levels_wider zero w d is = padded_wider IsScalar (IsValue (Spells zero)) (λ v e s. of_scalar s) w d is
 levels_wider (suc k) w d is = padded_wider (IsValue (Spells k)) (IsValue (Spells (suc k))) (value_wider (Spells k) (Spells (suc k)) (levels_wider k)) w d is
 
-known : (k : ℕ) → Known (Spells k) (element_at k)
+pub known : (k : ℕ) → Known (Spells k) (element_at k)
 unfolding Spells element_at
 known zero = record {
   takes = λ ts x e. padded_take IsScalar (value_at too_deep too_deep) flat_takes ts x e;

@@ -1,5 +1,6 @@
 -- Reading step by step: what an answer tells of the steps before it.
-use Rattle.std.proofs.Common.{◌≡◌, ℕ, ◌<◌, ◌≤◌, ◌+◌, Bool, true, false, cond, ◌⊎◌, inl, inr, List, [], ◌∷◌, ◌++◌, length, Ok, Err, refl, sym, ap, ◌∙◌, append_assoc, length-append, arith}
+use Rattle.std.proofs.Common.{◌≡◌, ℕ, ◌<◌, ◌≤◌, ◌+◌, Bool, true, false, cond, ◌⊎◌, inl, inr, List, [], ◌∷◌, ◌++◌, length, Result, Ok, Err, refl, sym, ap, ◌∙◌, append_assoc, length-append, arith}
+use Rattle.std.specs.Result.{IfOk}
 use Rattle.uq_value.specs.Data.{Bytes}
 use Rattle.uq_json.specs.Grammar.{Language}
 use Rattle.uq_json.specs.Reading.{Read, ◌>>=◌}
@@ -39,3 +40,7 @@ no_longer L ts x taken = let count : length ts ≡ length (taken.used ++ x.1) = 
 
 pub no_ok : {A : Type 0} (w : JsonFault) (x : A × Bytes) → ◌≡◌ {A = Read A} (Err w) (Ok x) → ⊥
 no_ok w x e = cc
+
+pub if_ok_weaker : {T E : Type 0} (r : Result T E) (P Q : T → Type 0) → ((x : T) → P x → Q x) → IfOk r P → IfOk r Q
+if_ok_weaker (Ok x) P Q weaker h = weaker x h
+if_ok_weaker (Err e) P Q weaker h = tt

@@ -1,13 +1,16 @@
 -- What the answer of reading is, by the grammar alone.
-use Rattle.std.proofs.Common.{◌≡◌, ℕ, zero, suc, ◌+◌, ◌<◌, ◌≤◌, ◌⊎◌, inl, inr, List, [], ◌∷◌, ◌++◌, length, Result, Ok, Err, refl, sym, ap, subst, ◌∙◌, append_assoc, append-nil, length-append, arith}
+use Rattle.std.proofs.Common.{◌≡◌, ℕ, zero, suc, ◌+◌, ◌<◌, ◌≤◌, ◌⊎◌, inl, inr, List, [], ◌∷◌, ◌++◌, length, Option, Some, None, Result, Ok, Err, refl, sym, ap, subst, ◌∙◌, append_assoc, append-nil, length-append, arith}
 use Rattle.uq_value.specs.Data.{Bytes, Data}
 use Rattle.uq_value.specs.Size.{data_size, most_size}
 use Rattle.uq_value.specs.Depth.{most_depth}
-use Rattle.uq_value.specs.Plain.{plain}
+use Rattle.uq_value.specs.Plain.{plain, value_of, size}
 use Rattle.uq_value.specs.declared.value.Value.{Value}
+use Rattle.uq_value.specs.declared.value.Value.TheVariants.{Null, Bool, Int, Text, List as List', Object as Object'}
+use Rattle.uq_json.proofs.Parts.{list_and_back, pairs_and_back}
 use Rattle.uq_json.specs.Grammar.{Spells}
 use Rattle.uq_json.specs.Answer.{Begins, OpensTooDeep, IsNoJson, SpellsValue, SpellsTooLarge, Answers}
-use Rattle.uq_json.specs.Reading.{Read, element_at}
+use Rattle.uq_json.specs.Found.{StandsFor}
+use Rattle.uq_json.specs.Reading.{Read, Fails, element_at}
 use Rattle.uq_json.specs.declared.error.JsonFault.{JsonFault}
 use Rattle.uq_json.specs.declared.error.JsonFault.TheVariants as fault
 use Rattle.uq_json.proofs.Agreement.{levels_agree}
@@ -45,7 +48,11 @@ deep_word ts e =
     let w = d.within in
     let b = d.beyond in
     record {
-      front = d.seen; opening = d.opening; after = d.after; parts = d.split; is_opening = d.is_opening;
+      front = d.seen;
+      opening = d.opening;
+      after = d.after;
+      parts = d.split;
+      is_opening = d.is_opening;
       shallow_before = w;
       more = suc most_depth;
       deeper = (b.0, b.1, subst (λ (v : Bytes). Spells (suc most_depth) v b.1) (sym (append_assoc d.seen (d.opening ∷ []) b.0)) b.2);
@@ -132,3 +139,64 @@ rest_left ts rest d e some = no_value ts (λ v is. let none : rest ≡ [] = ap r
 
 pub exclusive : (ts : Bytes) (d : Data) → Spells most_depth ts d → (IsNoJson ts → ⊥) × (OpensTooDeep ts → ⊥)
 exclusive ts d is = (λ none. none.spells_none most_depth d is, λ opens. not_deep ts (λ e. ok_apart d [] fault.TooDeep (sym (whole most_depth ts d is) ∙ e)) opens)
+
+-- a fault of reading is the answer
+pub fault_answer : (ts : Bytes) (why : JsonFault) → Fails why (element_at most_depth ts) → Answers ts (Err why)
+fault_answer ts fault.Memory fails = tt
+fault_answer ts fault.NotJson fails = stuck_word ts fails
+fault_answer ts fault.TooDeep fails = deep_word ts fails
+fault_answer ts fault.TooLarge fails = absurd fails
+
+pub value_answer : (ts rest : Bytes) (one : Option Value) (v : Value) → (d : Data) × (element_at most_depth ts ≡ Ok (d, rest)) × StandsFor one d → length rest ≡ 0 → one ≡ Some v → size v ≤ most_size → Answers ts (Ok v)
+value_answer ts rest one v (d, e, stands) none is small' =
+    let same : plain v ≡ d = subst (λ (o : Option Value). StandsFor o d) is stands in
+    record { spells = subst (Spells most_depth ts) (sym same) (spelled_so most_depth ts rest d e none); small = small' }
+
+pub large_answer : (ts rest : Bytes) (one : Option Value) → (d : Data) × (element_at most_depth ts ≡ Ok (d, rest)) × StandsFor one d → length rest ≡ 0 → one ≡ None → SpellsTooLarge ts
+large_answer ts rest one (d, e, stands) none is = record { spelled = d; spells = spelled_so most_depth ts rest d e none; large = subst (λ (o : Option Value). StandsFor o d) is stands }
+
+pub rest_answer : (ts rest : Bytes) (one : Option Value) → (d : Data) × (element_at most_depth ts ≡ Ok (d, rest)) × StandsFor one d → 0 < length rest → IsNoJson ts
+rest_answer ts rest one (d, e, stands) some = rest_left ts rest d e some
+
+value_and_back : (v : Value) → value_of (plain v) ≡ v
+value_and_back Null = refl
+value_and_back (Bool b) = refl
+value_and_back (Int z) = refl
+value_and_back (Text bs) = refl
+value_and_back (List' ds) = ap List' (list_and_back ds)
+value_and_back (Object' ms) = ap Object' (pairs_and_back ms)
+
+abbrev Answer : Type 0
+Answer = Result Value JsonFault
+
+memory_apart : {P : Type 0} → (◌≡◌ {A = Answer} (Err fault.Memory) (Err fault.Memory) → ⊥) → P
+memory_apart h = absurd (h refl)
+
+same_value : (ts : Bytes) (v w : Value) → SpellsValue ts (plain v) → SpellsValue ts (plain w) → v ≡ w
+same_value ts v w is also = sym (value_and_back v) ∙ ap value_of (one_value most_depth ts (plain v) (plain w) is.spells also.spells) ∙ value_and_back w
+
+not_both : (ts : Bytes) (v : Value) → SpellsValue ts (plain v) → SpellsTooLarge ts → ⊥
+not_both ts v is large = let same : plain v ≡ large.spelled = one_value most_depth ts (plain v) large.spelled is.spells large.spells in let sizes : data_size (plain v) ≡ data_size large.spelled = ap data_size same in let a = is.small in let b = large.large in omega (arith, a, b, sizes)
+
+pub only_answer : (ts : Bytes) (a b : Answer) → Answers ts a → Answers ts b → (a ≡ Err fault.Memory → ⊥) → (b ≡ Err fault.Memory → ⊥) → a ≡ b
+only_answer ts (Err fault.Memory) b is also here there = memory_apart here
+only_answer ts (Ok v) (Err fault.Memory) is also here there = memory_apart there
+only_answer ts (Ok v) (Ok w) is also here there = ap (λ (u : Value). let r : Answer = Ok u in r) (same_value ts v w is also)
+only_answer ts (Ok v) (Err fault.NotJson) is also here there = absurd ((exclusive ts (plain v) is.spells).0 also)
+only_answer ts (Ok v) (Err fault.TooDeep) is also here there = absurd ((exclusive ts (plain v) is.spells).1 also)
+only_answer ts (Ok v) (Err fault.TooLarge) is also here there = absurd (not_both ts v is also)
+only_answer ts (Err fault.NotJson) (Err fault.Memory) is also here there = memory_apart there
+only_answer ts (Err fault.NotJson) (Ok w) is also here there = absurd ((exclusive ts (plain w) also.spells).0 is)
+only_answer ts (Err fault.NotJson) (Err fault.NotJson) is also here there = refl
+only_answer ts (Err fault.NotJson) (Err fault.TooDeep) is also here there = absurd (is.not_too_deep also)
+only_answer ts (Err fault.NotJson) (Err fault.TooLarge) is also here there = absurd ((exclusive ts also.spelled also.spells).0 is)
+only_answer ts (Err fault.TooDeep) (Err fault.Memory) is also here there = memory_apart there
+only_answer ts (Err fault.TooDeep) (Ok w) is also here there = absurd ((exclusive ts (plain w) also.spells).1 is)
+only_answer ts (Err fault.TooDeep) (Err fault.NotJson) is also here there = absurd (also.not_too_deep is)
+only_answer ts (Err fault.TooDeep) (Err fault.TooDeep) is also here there = refl
+only_answer ts (Err fault.TooDeep) (Err fault.TooLarge) is also here there = absurd ((exclusive ts also.spelled also.spells).1 is)
+only_answer ts (Err fault.TooLarge) (Err fault.Memory) is also here there = memory_apart there
+only_answer ts (Err fault.TooLarge) (Ok w) is also here there = absurd (not_both ts w also is)
+only_answer ts (Err fault.TooLarge) (Err fault.NotJson) is also here there = absurd ((exclusive ts is.spelled is.spells).0 also)
+only_answer ts (Err fault.TooLarge) (Err fault.TooDeep) is also here there = absurd ((exclusive ts is.spelled is.spells).1 also)
+only_answer ts (Err fault.TooLarge) (Err fault.TooLarge) is also here there = refl

@@ -28,7 +28,6 @@ string_with_rest ts bs rest e some others is =
     let none : rest ≡ [] = ap rest_of same in
     let count : length rest ≡ 0 = ap length none in omega (arith, count, some)
 
-
 pub string_fails : {A : Type 0} (view : A → Bytes) (ts : Bytes) (why : JsonFault) → Fails why (string_at ts) → AnswersString view ts (Err why)
 string_fails view ts fault.Memory fails = tt
 string_fails view ts fault.TooLarge fails = fails
@@ -37,3 +36,10 @@ string_fails view ts fault.NotJson fails = λ bs is. let same : ◌≡◌ {A = R
 
 pub not_none : (n : ℕ) → (n ≡ 0 → ⊥) → 0 < n
 not_none n h = omega (arith, h)
+
+abbrev first_of : Read Bytes → Bytes
+first_of (Ok x) = x.0
+first_of (Err w) = []
+
+pub one_spelled : (ts a b : Bytes) → IsString ts a → IsString ts b → a ≡ b
+one_spelled ts a b is also = ap first_of (sym (string_again_whole ts a is) ∙ string_again_whole ts b also)

@@ -7,3 +7,4 @@ pub mod Reading
 pub mod Decoding
 pub mod Names
 pub mod Printing
+pub mod Found

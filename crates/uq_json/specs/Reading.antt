@@ -107,14 +107,22 @@ string_at ts = behind 0x22 ts >>= λ x. inside_at x.1
 
 -- ---- values
 
+abbrev pub string_data_at : Bytes → Read Data
+string_data_at ts = inside_at ts >>= λ x. Ok (text x.0, x.1)
+
 abbrev pub scalar_at : Bytes → Read Data
 scalar_at [] = Err NotJson
 scalar_at (c ∷ cs) =
-    if c == 0x22 then (inside_at cs >>= λ x. Ok (text x.0, x.1))
+    if c == 0x22 then string_data_at cs
     else if c == 0x6e then literal (codes "null") null (c ∷ cs)
     else if c == 0x74 then literal (codes "true") (boolean true) (c ∷ cs)
     else if c == 0x66 then literal (codes "false") (boolean false) (c ∷ cs)
     else number_at (c ∷ cs) >>= λ x. Ok (whole x.0, x.1)
+
+-- whether a comma is next, and not the closing bracket
+abbrev pub separator_at : ℕ → Bytes → Read Bool
+separator_at close [] = Err NotJson
+separator_at close (c ∷ cs) = if c == 0x2c then Ok (true, cs) else (if c == close then Ok (false, cs) else Err NotJson)
 
 -- behind one of a list or object: a comma and others, or the closing bracket
 abbrev pub others_at : {A : Type 0} → ℕ → (Bytes → Read (List A)) → A → Bytes → Read (List A)
@@ -151,3 +159,8 @@ too_deep ts = Err TooDeep
 unfoldable pub element_at : ℕ → Bytes → Read Data
 element_at zero ts = padded (value_at too_deep too_deep) ts
 element_at (suc k) ts = padded (value_at (list_at (element_at k)) (object_at (element_at k))) ts
+
+-- the same without the blanks
+abbrev pub value_within : ℕ → Bytes → Read Data
+value_within zero ts = value_at too_deep too_deep ts
+value_within (suc k) ts = value_at (list_at (element_at k)) (object_at (element_at k)) ts

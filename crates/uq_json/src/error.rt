@@ -2,6 +2,7 @@ ghost use Rattle.std.specs.Prelude.{◌≡◌};
 ghost use Rattle.uq_json.specs.declared.error.JsonFault.TheVariants.{Memory};
 
 use std::alloc::AllocError;
+use uq_value::NoMemory;
 
 /// Why a text is not read as JSON.
 #[derive(Clone, Copy, Debug, PartialEq, Eq)]
@@ -20,6 +21,14 @@ impl From<AllocError> for JsonFault {
     ghost from_gives = { λ _ e. e ≡ Memory };
 
     fn from(_missing: AllocError) -> JsonFault {
+        JsonFault::Memory
+    }
+}
+
+impl From<NoMemory> for JsonFault {
+    ghost from_gives = { λ _ e. e ≡ Memory };
+
+    fn from(_missing: NoMemory) -> JsonFault {
         JsonFault::Memory
     }
 }

@@ -3,13 +3,16 @@
 
 mod decoder;
 mod error;
+mod numbers;
 mod piece;
 mod printing;
 mod quoting;
+mod reading;
 mod scanning;
 mod unquoting;
 
 pub use error::JsonFault;
 pub use printing::{print_json, text_of};
 pub use quoting::quote;
-pub use unquoting::unquote;
+pub use reading::{one_answer, read_json};
+pub use unquoting::{one_string, unquote};

@@ -23,7 +23,7 @@ digits_split : (ts : Bytes) → ts ≡ digits_of ts ++ behind_digits ts
 digits_split [] = refl
 digits_split (c ∷ cs) = elim (is_ascii_digit c) as (λ b. c ∷ cs ≡ cond b (c ∷ digits_of cs) [] ++ cond b (behind_digits cs) (c ∷ cs)) [ true ↦ ap (λ (w : Bytes). c ∷ w) (digits_split cs) | false ↦ refl ]
 
-are_digits : (ts : Bytes) → list_all is_ascii_digit (digits_of ts) ≡ true
+pub are_digits : (ts : Bytes) → list_all is_ascii_digit (digits_of ts) ≡ true
 are_digits [] = refl
 are_digits (c ∷ cs) = by (is_ascii_digit c) refl (are_digits cs)
   where
@@ -43,7 +43,7 @@ digits_front (c ∷ cs) rest all end =
     let others = digits_front cs rest parts.1 end in
     (if_true (is_ascii_digit c) (c ∷ digits_of (cs ++ rest)) [] parts.0 ∙ ap (λ (w : Bytes). c ∷ w) others.0, if_true (is_ascii_digit c) (behind_digits (cs ++ rest)) (c ∷ (cs ++ rest)) parts.0 ∙ others.1)
 
-digit_range : (c : ℕ) → is_ascii_digit c ≡ true → (48 ≤ c) × (c < 58)
+pub digit_range : (c : ℕ) → is_ascii_digit c ≡ true → (48 ≤ c) × (c < 58)
 digit_range c e = grind (arith, nat_tests)
 
 pub digit_no : (c : ℕ) → (c < 48) ⊎ (57 < c) → is_ascii_digit c ≡ false
