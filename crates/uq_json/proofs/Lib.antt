@@ -14,3 +14,4 @@ pub mod Agreement
 pub mod Verdicts
 pub mod Decimals
 pub mod Gathering
+pub mod Printed

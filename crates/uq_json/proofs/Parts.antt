@@ -5,8 +5,8 @@ use Rattle.uq_value.specs.Data.{Bytes, Data, Datas, Pairs, Items, no_items, item
 use Rattle.uq_value.specs.Depth.{data_depth, items_depth, members_depth}
 use Rattle.uq_value.specs.Plain.{plain, value_of, items, members}
 use Rattle.uq_value.specs.declared.value.Value.{Value}
-use Rattle.uq_json.specs.Names.{HasDistinctNames, ItemsHaveDistinctNames, MembersHaveDistinctNames}
-use Rattle.uq_json.specs.Printing.{comma_before, item_text, member_text, HasDistinctNamesAt, MemberHasDistinctNamesAt}
+use Rattle.uq_json.specs.Printable.{IsPrintable, ItemsArePrintable, MembersArePrintable}
+use Rattle.uq_json.specs.Printing.{comma_before, item_text, member_text, IsPrintableAt, MemberIsPrintableAt}
 use Rattle.uq_json.specs.Quote.{quoted}
 use Rattle.uq_json.specs.Text.{json, item_texts, member_texts, comma_separated, behind_others, bracketed}
 
@@ -138,16 +138,16 @@ printed_ends before now later opening close at ps is so_far e =
 
 -- ---- names
 
-pub items_distinct : (ds : Datas) → ((k : ℕ) → k < length ds → HasDistinctNamesAt ds k) → HasDistinctNames (list ds)
-items_distinct [] each = tt
-items_distinct (d ∷ ds) each = (each 0 (omega arith), items_distinct ds (λ k h. each (suc k) (omega (arith, h))))
+pub items_printable : (ds : Datas) → ((k : ℕ) → k < length ds → IsPrintableAt ds k) → IsPrintable (list ds)
+items_printable [] each = tt
+items_printable (d ∷ ds) each = (each 0 (omega arith), items_printable ds (λ k h. each (suc k) (omega (arith, h))))
 
-members_distinct : (ms : Pairs) → ((k : ℕ) → k < length ms → MemberHasDistinctNamesAt ms k) → MembersHaveDistinctNames (members_of ms)
-members_distinct [] each = tt
-members_distinct (m ∷ ms) each = (each 0 (omega arith), members_distinct ms (λ k h. each (suc k) (omega (arith, h))))
+members_printable : (ms : Pairs) → ((k : ℕ) → k < length ms → MemberIsPrintableAt ms k) → MembersArePrintable (members_of ms)
+members_printable [] each = tt
+members_printable (m ∷ ms) each = (each 0 (omega arith), members_printable ms (λ k h. each (suc k) (omega (arith, h))))
 
-pub object_distinct : (ms : Pairs) → IsDistinct (names_of ms) → ((k : ℕ) → k < length ms → MemberHasDistinctNamesAt ms k) → HasDistinctNames (object ms)
-object_distinct ms names each = (subst (λ (ns : Pairs). IsDistinct (names_of ns)) (sym (pairs_and_back ms)) names, members_distinct ms each)
+pub object_printable : (ms : Pairs) → IsDistinct (names_of ms) → ((k : ℕ) → k < length ms → MemberIsPrintableAt ms k) → IsPrintable (object ms)
+object_printable ms names each = (subst (λ (ns : Pairs). IsDistinct (names_of ns)) (sym (pairs_and_back ms)) names, members_printable ms each)
 
 -- ---- one part printed
 
@@ -165,8 +165,8 @@ pair_text ms at name v before comma named colon later there first second third f
     sym all ∙ ap (λ (w : Bytes). w ++ (quoted name ++ 0x3a ∷ json (plain v))) first ∙ append_assoc before (comma_before at) (quoted name ++ 0x3a ∷ json (plain v))
     ∙ ap (λ (w : Bytes). before ++ (comma_before at ++ w)) (sym (member_there ms at name v there).printed)
 
-pub names_at : (ds : Datas) (at : ℕ) (v : Value) → Some v ≡ slice_get (items ds) at → HasDistinctNames (plain v) → HasDistinctNamesAt ds at
-names_at ds at v there names = subst HasDistinctNames (sym (item_there ds at v there).is) names
+pub printable_at : (ds : Datas) (at : ℕ) (v : Value) → Some v ≡ slice_get (items ds) at → IsPrintable (plain v) → IsPrintableAt ds at
+printable_at ds at v there names = subst IsPrintable (sym (item_there ds at v there).is) names
 
-pub pair_names_at : (ms : Pairs) (at : ℕ) (name : Bytes) (v : Value) → ◌≡◌ {A = Option (Bytes × Value)} (Some (name, v)) (slice_get (members ms) at) → HasDistinctNames (plain v) → MemberHasDistinctNamesAt ms at
-pair_names_at ms at name v there names = subst HasDistinctNames (sym (member_there ms at name v there).is) names
+pub pair_printable_at : (ms : Pairs) (at : ℕ) (name : Bytes) (v : Value) → ◌≡◌ {A = Option (Bytes × Value)} (Some (name, v)) (slice_get (members ms) at) → IsPrintable (plain v) → MemberIsPrintableAt ms at
+pair_printable_at ms at name v there names = subst IsPrintable (sym (member_there ms at name v there).is) names

@@ -5,6 +5,6 @@ pub mod Text
 pub mod Answer
 pub mod Reading
 pub mod Decoding
-pub mod Names
+pub mod Printable
 pub mod Printing
 pub mod Found

@@ -1,21 +1,25 @@
 // The JSON text of a value, without blanks, and its text.
 
-ghost use Rattle.std.specs.Prelude.{◌≡◌, ◌<◌, ◌++◌, length, IfOk, OnOk};
+ghost use Rattle.std.specs.Prelude.{◌≡◌, ◌<◌, ◌++◌, length, Ok, IfOk, OnOk};
 ghost use Rattle.uq_value.specs.Data.{list as list_data, object as object_data};
 ghost use Rattle.uq_value.specs.Plain.{plain};
-ghost use Rattle.uq_json.specs.Names.{HasDistinctNames};
-ghost use Rattle.uq_json.specs.Printing.{comma_before, item_text, member_text, HasDistinctNamesAt, MemberHasDistinctNamesAt};
+ghost use Rattle.uq_json.specs.Answer.{Answers};
+ghost use Rattle.uq_json.specs.Printable.{IsPrintable};
+ghost use Rattle.uq_json.specs.Printing.{comma_before, item_text, member_text, IsPrintableAt, MemberIsPrintableAt};
 ghost use Rattle.uq_json.specs.Text.{json, text_of as spec_text_of};
 
 use crate::quoting::push_quoted;
 use itoa::Buffer;
 use std::alloc::{AllocError, Global};
-use uq_value::{List, NoMemory, Object, Value};
+use uq_value::{List, NoMemory, Object, Value, within_limits};
 
 /// The JSON text of a value, without blanks.
 pub fn print_json(alloc: Global, v: &Value) -> Result<Vec<u8>, NoMemory>
     ensures text { IfOk result (λ text. text.items ≡ json (plain v.now)) }
+    // So `read_json` gives the value back.
+    ensures answer { IfOk result (λ text. Answers text.items (Ok v.now)) }
 {
+    within_limits(v);
     let mut text = Vec::new(alloc);
     match push_value(&mut text, v) {
         Ok(()) => Ok(text),
@@ -41,7 +45,7 @@ pub fn text_of(alloc: Global, v: &Value) -> Result<Vec<u8>, NoMemory>
 #[cycle(print)]
 fn push_value(text: &mut Vec<u8>, v: &Value) -> Result<(), AllocError>
     ensures text { OnOk result (text.new.items ≡ text.old.items ++ json (plain v.now)) }
-    ensures names { OnOk result (HasDistinctNames (plain v.now)) }
+    ensures printable { OnOk result (IsPrintable (plain v.now)) }
 {
     match v {
         Value::Null => text.extend_from_slice(b"null"),
@@ -57,7 +61,7 @@ fn push_value(text: &mut Vec<u8>, v: &Value) -> Result<(), AllocError>
 #[cycle(print)]
 fn push_list(text: &mut Vec<u8>, list: &List) -> Result<(), AllocError>
     ensures text { OnOk result (text.new.items ≡ text.old.items ++ json (list_data list.now)) }
-    ensures names { OnOk result (HasDistinctNames (list_data list.now)) }
+    ensures printable { OnOk result (IsPrintable (list_data list.now)) }
 {
     text.push(b'[')?;
     for at in 0..list.len() {
@@ -71,7 +75,7 @@ fn push_list(text: &mut Vec<u8>, list: &List) -> Result<(), AllocError>
 fn push_item(text: &mut Vec<u8>, list: &List, at: usize) -> Result<(), AllocError>
     requires { at < length list.now }
     ensures text { OnOk result (text.new.items ≡ text.old.items ++ (comma_before at ++ item_text list.now at)) }
-    ensures names { OnOk result (HasDistinctNamesAt list.now at) }
+    ensures printable { OnOk result (IsPrintableAt list.now at) }
 {
     push_comma(text, at)?;
     match list.item(at) {
@@ -83,7 +87,7 @@ fn push_item(text: &mut Vec<u8>, list: &List, at: usize) -> Result<(), AllocErro
 #[cycle(print)]
 fn push_object(text: &mut Vec<u8>, object: &Object) -> Result<(), AllocError>
     ensures text { OnOk result (text.new.items ≡ text.old.items ++ json (object_data object.now)) }
-    ensures names { OnOk result (HasDistinctNames (object_data object.now)) }
+    ensures printable { OnOk result (IsPrintable (object_data object.now)) }
 {
     object.has_distinct_names();
     text.push(b'{')?;
@@ -98,7 +102,7 @@ fn push_object(text: &mut Vec<u8>, object: &Object) -> Result<(), AllocError>
 fn push_member(text: &mut Vec<u8>, object: &Object, at: usize) -> Result<(), AllocError>
     requires { at < length object.now }
     ensures text { OnOk result (text.new.items ≡ text.old.items ++ (comma_before at ++ member_text object.now at)) }
-    ensures names { OnOk result (MemberHasDistinctNamesAt object.now at) }
+    ensures printable { OnOk result (MemberIsPrintableAt object.now at) }
 {
     push_comma(text, at)?;
     match object.member(at) {
