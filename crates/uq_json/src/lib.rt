@@ -9,6 +9,8 @@ mod printing;
 mod quoting;
 mod reading;
 mod scanning;
+#[cfg(test)]
+mod tests;
 mod unquoting;
 
 pub use error::JsonFault;
