@@ -1,0 +1,17 @@
+pub mod Steps
+pub mod Pieces
+pub mod Decoding
+pub mod Faults
+pub mod Wholes
+pub mod Escapes
+pub mod Parts
+pub mod Scalars
+pub mod Deep
+pub mod Listing
+pub mod Elements
+pub mod Rooms
+pub mod Agreement
+pub mod Verdicts
+pub mod Decimals
+pub mod Gathering
+pub mod Printed

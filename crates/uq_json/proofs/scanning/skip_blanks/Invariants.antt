@@ -1,0 +1,12 @@
+use Rattle.std.proofs.Common.{◌≡◌, ◌≤◌, ◌-◌, length, drop}
+use Rattle.uq_json.specs.Reading.{skip_blanks}
+use Rattle.uq_json.proofs.scanning.skip_blanks.Given as goal
+
+abbrev pub decreases-loop-count : goal.decreases-loop-count
+decreases-loop-count l = length l.text - l.count
+
+abbrev pub invariant-loop-count : goal.invariant-loop-count
+invariant-loop-count l = record {
+  within : l.count ≤ length l.text;
+  skips : skip_blanks (drop l.count l.text) ≡ skip_blanks l.text;
+}

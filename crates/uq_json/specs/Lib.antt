@@ -1,0 +1,10 @@
+pub mod Quote
+pub mod Strings
+pub mod Grammar
+pub mod Text
+pub mod Answer
+pub mod Reading
+pub mod Decoding
+pub mod Printable
+pub mod Printing
+pub mod Found
