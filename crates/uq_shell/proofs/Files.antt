@@ -3,11 +3,13 @@ use Rattle.std.proofs.Common.{◌≡◌, ◌⊎◌, ℕ, ◌+◌, ◌≤◌, ◌
 use Rattle.std.proofs.lemmas.List.{take_at, drop_at, drop-drop, append-nil, length-append}
 use Rattle.std.proofs.Math.ListN.{drop_of_length-le}
 use Rattle.std.proofs.Math.Seq.{drop-append-add, take-length}
-use Rattle.std.specs.Option.{option_map}
+use Rattle.std.specs.Option.{ForSome, option_map}
 use Rattle.std.specs.FinMap.{empty}
 use Rattle.uq_outside.specs.declared.disk.Disk as disk
 use Rattle.std.specs.Prelude.{Result, Ok, Err, OnOk, IfOk}
 use Rattle.uq_outside.specs.Files.{Files, in_file}
+use Rattle.uq_outside.specs.Files.{Keeps as KeepsFile}
+use Rattle.uq_outside.specs.Stops.{Only}
 use Rattle.uq_outside.specs.declared.fault.FileNo.TheVariants.{Main}
 use Rattle.uq_page.specs.declared.page.Page.{Page}
 use Rattle.uq_page.specs.Page.{bytes_of}
@@ -15,7 +17,7 @@ use Rattle.uq_page.specs.MemPages.{pages_in}
 use Rattle.uq_outside.specs.Written.{written}
 use Rattle.uq_page.specs.declared.header.Header.{Header}
 use Rattle.uq_shell.specs.Store.{Store}
-use Rattle.uq_shell.specs.Database.{Holds, HoldsStore, HoldEntries, IsDatabase, IsEmpty, IsTwoPages}
+use Rattle.uq_shell.specs.Database.{Holds, HoldsStore, HoldEntries, IsDatabase, IsDurable, IsEmpty, IsTwoPages}
 use Rattle.uq_shell.specs.Keeps.{Keeps, with_pages}
 use Rattle.uq_shell.specs.declared.database.Database.{Database}
 
@@ -145,3 +147,8 @@ pub taken_in : (database : Database) (store : Store) (header : Header) (head buc
 taken_in database store header head bucket is pages entries =
     let same : header ≡ database.header = cc in
     record { head = head; bucket = bucket; pages = pages; hold = subst (λ h. HoldEntries store h head bucket) same entries }
+
+-- a disk whose main file was synced
+pub synced : {D E : Type 0} (g : disk.Ghosts D) (result : Result (Unit {0}) E) (old new : D) → g.content new ≡ g.content old → OnOk result (ForSome (g.content old) (λ files. Only (KeepsFile Main files) (g.may_leave new))) → OnOk result (IsDurable g new)
+synced g (Err fault) old new same durable = tt
+synced g (Ok done) old new same durable = λ files told left leaves. durable files (sym same ∙ told) left leaves

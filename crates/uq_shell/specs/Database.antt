@@ -75,3 +75,7 @@ pub record HasHeader (main : List ℕ) : Type 0 where
 pub record HaveShape (files : Files) : Type 0 where
   pub no_journal : length files.journal ≡ 0
   pub main : (length files.main ≡ 0) ⊎ HasHeader files.main
+
+-- A stop now leaves of the main file what the disk tells.
+abbrev pub IsDurable : {D : Type 0} → Ghosts D → D → Type 0
+IsDurable g disk = ForSome (g.content disk) (λ files. (left : Files) → g.may_leave disk left → left.main ≡ files.main)

@@ -1,5 +1,5 @@
 -- The theorem of a run, one sentence a field.
-use Rattle.std.specs.Prelude.{◌≡◌, ◌⊎◌, ℕ, Bool, true, false, List, length, Option, IsTrue, slice_get, Some}
+use Rattle.std.specs.Prelude.{◌≡◌, ◌⊎◌, ◌<◌, ℕ, Bool, true, false, List, length, Option, IsTrue, slice_get, Some}
 use Rattle.uq_outside.specs.Streams.{Grows}
 use Rattle.uq_shell.specs.Store.{Store}
 use Rattle.uq_shell.specs.Command.{Event, Commit}
@@ -47,6 +47,13 @@ pub record Meets (run : Outcome) (ended : Ended) (sink_rose : Type 0) (written_b
 -- the event under way is a commit
 abbrev pub IsCommitUnderWay : List Event → ℕ → Type 0
 IsCommitUnderWay events n = (store : Store) × (slice_get events n ≡ Some (Commit store))
+
+-- a commit is among the first n events
+pub record IsCommitted (events : List Event) (n : ℕ) : Type 0 where
+  pub at : ℕ
+  pub store : Store
+  pub before : at < n
+  pub commit : slice_get events at ≡ Some (Commit store)
 
 -- Where no count rose, the run ends as its meaning ends, or for want of memory.
 abbrev pub IsComplete : Outcome → Status → Type 0

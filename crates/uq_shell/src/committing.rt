@@ -4,7 +4,7 @@ ghost use Rattle.std.specs.Option.{option_map};
 ghost use Rattle.uq_page.specs.Page.{bytes_of};
 ghost use Rattle.uq_outside.specs.Causes.{HasCause};
 ghost use Rattle.uq_shell.specs.Store.{Store};
-ghost use Rattle.uq_shell.specs.Database.{Holds};
+ghost use Rattle.uq_shell.specs.Database.{Holds, IsDurable};
 ghost use Rattle.uq_shell.specs.Keeps.{Keeps, with_pages};
 
 use crate::database::Database;
@@ -14,6 +14,7 @@ use uq_page::Page;
 /// Writes the pages over the main file, and syncs it.
 pub fn commit<D: Disk>(database: &Database, disk: &mut D) -> Result<(), DiskFault>
     ensures holds { OnOk result ((entry store : Store) → Holds D.Disk disk.old entry → Keeps database.now store → Holds D.Disk disk.new store) }
+    ensures durable { OnOk result (IsDurable D.Disk disk.new) }
     ensures cause { HasCause (D.faults disk.old) (D.faults disk.new) result }
 {
     let [head, bucket] = database.pages.pages() else {

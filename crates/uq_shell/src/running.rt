@@ -3,13 +3,13 @@ ghost use Rattle.std.specs.Prelude.{◌≡◌, ◌⊎◌, ◌↔◌, ◌≤◌, 
 ghost use Rattle.std.specs.Option.{ForSome};
 ghost use Rattle.uq_outside.specs.Causes.{Rose};
 ghost use Rattle.uq_shell.specs.Store.{Store, opened};
-ghost use Rattle.uq_shell.specs.Database.{Holds, HoldsNone, HaveShape};
+ghost use Rattle.uq_shell.specs.Database.{Holds, HoldsNone, HaveShape, IsDurable};
 ghost use Rattle.uq_shell.specs.Keeps.{Keeps};
 ghost use Rattle.uq_shell.specs.Command.{Answer, StoreKey, FetchKey, answer};
 ghost use Rattle.uq_shell.specs.Request.{request_of};
 ghost use Rattle.uq_shell.specs.Run.{run_of, is_usage, obeyed, last_commit};
 ghost use Rattle.uq_shell.specs.Followed.{EndsInLine, ending_of, line_behind};
-ghost use Rattle.uq_shell.specs.Headline.{HasCauses, is_answered, Meets, IsComplete, IsCommitUnderWay};
+ghost use Rattle.uq_shell.specs.Headline.{HasCauses, is_answered, Meets, IsCommitted, IsComplete, IsCommitUnderWay};
 ghost use Rattle.uq_shell.specs.Line.{line_after};
 ghost use Rattle.uq_shell.specs.Quote.{quoted};
 ghost use Rattle.uq_shell.specs.Obeying.{Answers, IsLine, Obeys, Settles};
@@ -46,6 +46,7 @@ pub fn run<D: Disk, I: Source, O: Sink>(
     // Over a disk that holds a store.
     ensures headline { (store : Store) → Holds D.Disk disk.old store → Meets (run_of (map string_bytes words.now) store) result (Rose (O.faults out.old) (O.faults out.new)) (O.written out.old) (O.written out.new) }
     ensures stored { (store : Store) → Holds D.Disk disk.old store → let run = run_of (map string_bytes words.now) store in (IsCommitUnderWay run.events result.done → ⊥) → Holds D.Disk disk.new (last_commit store (take result.done run.events)) }
+    ensures durable { (store : Store) → Holds D.Disk disk.old store → IsCommitted (run_of (map string_bytes words.now) store).events result.done → IsDurable D.Disk disk.new }
     ensures complete { (store : Store) → Holds D.Disk disk.old store → (Rose (D.faults disk.old) (D.faults disk.new) → ⊥) → (Rose (I.faults input.old) (I.faults input.new) → ⊥) → (Rose (O.faults out.old) (O.faults out.new) → ⊥) → IsComplete (run_of (map string_bytes words.now) store) result.status }
 {
     if lacks_form(words) {
@@ -70,6 +71,7 @@ fn obey<D: Disk, O: Sink>(
     requires { database.is_begun ≡ false }
     ensures obeys { (store : Store) → Keeps database store → Holds D.Disk disk.old store → Obeys D.Disk store (obeyed (answer (request_of command.entry) None (opened store))) disk.new result (Rose (O.faults out.old) (O.faults out.new)) (O.written out.old) (O.written out.new) }
     ensures causes { HasCauses (Rose (D.faults disk.old) (D.faults disk.new)) (Rose (O.faults out.old) (O.faults out.new)) ((store : Store) → Keeps database store → ⊥) result.status }
+    ensures durable { (store : Store) → Keeps database store → IsCommitted (obeyed (answer (request_of command.entry) None (opened store))).events result.done → IsDurable D.Disk disk.new }
     ensures line { EndsInLine result.status (Rose (O.faults out.old) (O.faults out.new)) (O.written out.old) (O.written out.new) }
     ensures counts { (D.faults disk.old ≤ D.faults disk.new) × (O.faults out.old ≤ O.faults out.new) }
     ensures not_usage { result.status ≡ Status.Usage → ⊥ }
@@ -87,6 +89,7 @@ fn serve<D: Disk, O: Sink>(reply: &Reply, database: &Database, disk: &mut D, out
     requires { IsLine reply.now }
     ensures obeys { (meant : Answer) (entry : Store) → Answers reply.now database.now meant → Holds D.Disk disk.old entry → Obeys D.Disk entry (obeyed meant) disk.new result (Rose (O.faults out.old) (O.faults out.new)) (O.written out.old) (O.written out.new) }
     ensures causes { HasCauses (Rose (D.faults disk.old) (D.faults disk.new)) (Rose (O.faults out.old) (O.faults out.new)) ⊥ result.status }
+    ensures durable { (meant : Answer) → Answers reply.now database.now meant → IsCommitted (obeyed meant).events result.done → IsDurable D.Disk disk.new }
     ensures line { EndsInLine result.status (Rose (O.faults out.old) (O.faults out.new)) (O.written out.old) (O.written out.new) }
     ensures counts { (D.faults disk.old ≤ D.faults disk.new) × (O.faults out.old ≤ O.faults out.new) }
     ensures not_usage { result.status ≡ Status.Usage → ⊥ }
@@ -105,6 +108,7 @@ fn serve<D: Disk, O: Sink>(reply: &Reply, database: &Database, disk: &mut D, out
 fn settle<D: Disk, O: Sink>(reply: &Reply, database: &Database, disk: &mut D, out: &mut O) -> Ended
     ensures settles { (meant : Answer) → Answers reply.now database.now meant → Settles meant result }
     ensures stored { (meant : Answer) (entry : Store) → Answers reply.now database.now meant → Holds D.Disk disk.old entry → (IsCommitUnderWay (obeyed meant).events result.done → ⊥) → Holds D.Disk disk.new (last_commit entry (take result.done (obeyed meant).events)) }
+    ensures durable { (meant : Answer) → Answers reply.now database.now meant → IsCommitted (obeyed meant).events result.done → IsDurable D.Disk disk.new }
     ensures line { Writes (line_behind [] (ending_of result.status)) (O.written out.old) (O.written out.new) (Rose (O.faults out.old) (O.faults out.new)) }
     ensures causes { HasCauses (Rose (D.faults disk.old) (D.faults disk.new)) ⊥ ⊥ result.status }
     ensures not_usage { result.status ≡ Status.Usage → ⊥ }
@@ -190,21 +194,21 @@ fn fetch(alloc: Global, key: &[u8], database: &mut Database) -> Result<Reply, Fe
 }
 
 /// The reply with these data.
-fn data_reply(alloc: Global, data: &[u8]) -> Result<Reply, FetchFault>
-    ensures line { IfOk result (λ reply. (line : Vec ℕ Global) × (reply ≡ Reply.Data line) × (line.items ≡ line_after None (quoted data.now))) }
+fn data_reply(alloc: Global, bytes: &[u8]) -> Result<Reply, FetchFault>
+    ensures line { IfOk result (λ reply. (line : Vec ℕ Global) × (reply ≡ Reply.Data line) × (line.items ≡ line_after None (quoted bytes.now))) }
     ensures memory { IfErr result (λ fault. fault ≡ FetchFault.Memory) }
 {
-    match data_line(alloc, data) {
+    match data_line(alloc, bytes) {
         Ok(line) => Ok(Reply::Data(line)),
         Err(_) => Err(FetchFault::Memory),
     }
 }
 
 /// The line of the data: a JSON string.
-fn data_line(alloc: Global, data: &[u8]) -> Result<Vec<u8>, AllocError>
-    ensures { IfOk result (λ line. line.items ≡ line_after None (quoted data.now)) }
+fn data_line(alloc: Global, bytes: &[u8]) -> Result<Vec<u8>, AllocError>
+    ensures { IfOk result (λ line. line.items ≡ line_after None (quoted bytes.now)) }
 {
-    let mut line = quote(alloc, data)?;
+    let mut line = quote(alloc, bytes)?;
     line.push(b'\n')?;
     Ok(line)
 }

@@ -1,5 +1,5 @@
 use Rattle.std.proofs.Common.{◌∙◌}
-use Rattle.uq_shell.proofs.Files.{committed_entries, holds_written, on_ok}
+use Rattle.uq_shell.proofs.Files.{committed_entries, holds_written, on_ok, synced}
 use Rattle.uq_shell.proofs.committing.commit.Goals as goal
 
 pub returns-clause-holds : goal.returns-clause-holds
@@ -7,3 +7,6 @@ returns-clause-holds g c = on_ok c.sync.result _ (λ entry store holds keeps.
     holds_written g.D.Disk c.args.disk.now c.sync.new.self entry store _ _ c.args.database.now.header c.in_ok-write_pages.ensures.head_size c.in_ok-write_pages.ensures.bucket_size
     (c.sync.ensures.same ∙ c.in_ok-write_pages.ensures.written) holds
     (committed_entries c.args.database.now store keeps c.pages.result.now _ c.in-len2.len_at_least c.in-len2.len_below c.pages.ensures.pages))
+
+pub returns-clause-durable : goal.returns-clause-durable
+returns-clause-durable g c = synced g.D.Disk c.sync.result c.write_pages.new.disk c.sync.new.self c.sync.ensures.same c.sync.ensures.durable

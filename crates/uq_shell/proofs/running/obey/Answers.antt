@@ -33,3 +33,6 @@ returns-in-Err-Corrupt-clause-line g c = rw c.end.ensures.ended (ends_first NotD
 
 pub returns-clause-line : goal.returns-clause-line
 returns-clause-line g c = rw c.end-in-Err-Memory.ensures.ended (ends_first Memory _ _ _ c.end-in-Err-Memory.ensures.line)
+
+pub returns-in-Ok-clause-durable : goal.returns-in-Ok-clause-durable
+returns-in-Ok-clause-durable g c store keeps = c.serve.ensures.durable _ (c.in-Ok.ensures.answers store keeps)

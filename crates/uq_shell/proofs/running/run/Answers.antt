@@ -57,3 +57,7 @@ returns-in-Err-NotDatabase-clause-line g c = rw c.end-in-Err-NotDatabase.ensures
 
 pub returns-in-Err-Memory-clause-line : goal.returns-in-Err-Memory-clause-line
 returns-in-Err-Memory-clause-line g c = rw c.end-in-Err-Memory.ensures.ended (ends_first Memory _ _ _ c.end-in-Err-Memory.ensures.line)
+
+pub returns-in-Ok-clause-durable : goal.returns-in-Ok-clause-durable
+returns-in-Ok-clause-durable g c store holds =
+    rw (run_of-obeyed (map string_bytes c.args.words.now) store c.if-lacks_form.ensures, ← asked-rest (request_of c.read_command.result) c.args.words.now c.read_command.ensures) (c.obey.ensures.durable store (c.in-Ok.ensures.keeps store holds))
