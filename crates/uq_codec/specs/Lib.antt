@@ -1,0 +1,5 @@
+pub mod Varint
+pub mod Stored
+pub mod Answer
+pub mod Reading
+pub mod Laws

@@ -1,0 +1,49 @@
+-- The stored form of a value: a byte for its kind, and what that kind keeps.
+use Rattle.std.specs.Prelude.{◌≡◌, ℕ, ◌-◌, ◌^◌, ◌<◌, ◌≤◌, ℤ, pos, negsuc, if◌then◌else◌, [], ◌∷◌, ◌++◌, length}
+use Rattle.std.specs.Int.{w64, to_be_bytes}
+use Rattle.uq_value.specs.Data.{Bytes, Data, null, boolean, whole, text, sequence, mapping, Items, no_items, item, Members, no_members, member, list_of, pairs_of, names_of, IsDistinct}
+use Rattle.uq_value.specs.Size.{most_size}
+use Rattle.uq_value.specs.Depth.{most_depth}
+use Rattle.uq_value.specs.Plain.{plain, size, depth}
+use Rattle.uq_value.specs.declared.value.Value.{Value}
+use Rattle.uq_codec.specs.Varint.{IsVarint}
+
+-- a whole number of 64 bits in eight bytes, the highest first, a negative one as its two's complement
+abbrev pub IsWhole : Bytes → ℤ → Type 0
+IsWhole word (pos n) = (n < 2 ^ 63) × (word ≡ to_be_bytes w64 n)
+IsWhole word (negsuc n) = (n < 2 ^ 63) × (word ≡ to_be_bytes w64 (2 ^ 64 - 1 - n))
+
+-- a length, and as many bytes
+pub record IsName (word bytes : Bytes) : Type 0 where
+  pub count : Bytes
+  pub parts : word ≡ count ++ bytes
+  pub is_count : IsVarint count (length bytes)
+
+-- the bytes spell this value, its limits aside
+abbrev mutual
+  pub Spells : Bytes → Data → Type 0
+  Spells word null = word ≡ 0 ∷ []
+  Spells word (boolean b) = word ≡ (if b then 2 else 1) ∷ []
+  Spells word (whole z) = (number : Bytes) × (word ≡ 3 ∷ number) × IsWhole number z
+  Spells word (text bytes) = (name : Bytes) × (word ≡ 4 ∷ name) × IsName name bytes
+  Spells word (sequence ds) =
+      (count : Bytes) × (body : Bytes) × (word ≡ 5 ∷ (count ++ body)) × IsVarint count (length (list_of ds)) × SpellsItems body ds
+  Spells word (mapping ms) =
+      (count : Bytes) × (body : Bytes) × (word ≡ 6 ∷ (count ++ body)) × IsVarint count (length (pairs_of ms)) × SpellsMembers body ms × IsDistinct (names_of (pairs_of ms))
+
+  -- items stand one behind the other
+  pub SpellsItems : Bytes → Items → Type 0
+  SpellsItems word no_items = word ≡ []
+  SpellsItems word (item d ds) = (front : Bytes) × (back : Bytes) × (word ≡ front ++ back) × Spells front d × SpellsItems back ds
+
+  -- so do members, each a name and a value
+  pub SpellsMembers : Bytes → Members → Type 0
+  SpellsMembers word no_members = word ≡ []
+  SpellsMembers word (member name d ms) =
+      (label : Bytes) × (front : Bytes) × (back : Bytes) × (word ≡ label ++ (front ++ back)) × IsName label name × Spells front d × SpellsMembers back ms
+
+-- the bytes are the stored form of this value, which is within the limits
+pub record IsStored (word : Bytes) (v : Value) : Type 0 where
+  pub spells : Spells word (plain v)
+  pub small : size v ≤ most_size
+  pub shallow : depth v ≤ most_depth
