@@ -1,0 +1,4 @@
+mod Determined
+mod Forms
+mod Values
+mod Verdicts
