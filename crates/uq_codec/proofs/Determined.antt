@@ -84,7 +84,7 @@ whole_same a b x y m n p q e =
 -- ---- kinds
 
 -- the byte with which a spelling begins
-abbrev kind : Data → ℕ
+abbrev pub kind : Data → ℕ
 kind null = 0
 kind (boolean false) = 1
 kind (boolean true) = 2
@@ -93,11 +93,11 @@ kind (text bs) = 4
 kind (sequence ds) = 5
 kind (mapping ms) = 6
 
-record Begins (a : Bytes) (k : ℕ) : Type 0 where
-  tail : Bytes
-  parts : a ≡ k ∷ tail
+pub record Begins (a : Bytes) (k : ℕ) : Type 0 where
+  pub tail : Bytes
+  pub parts : a ≡ k ∷ tail
 
-begins : (d : Data) (a : Bytes) → Spells a d → Begins a (kind d)
+pub begins : (d : Data) (a : Bytes) → Spells a d → Begins a (kind d)
 begins null a p = record { tail = []; parts = p }
 begins (boolean false) a p = record { tail = []; parts = p }
 begins (boolean true) a p = record { tail = []; parts = p }

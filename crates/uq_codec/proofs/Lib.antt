@@ -2,3 +2,5 @@ mod Determined
 mod Forms
 mod Values
 mod Verdicts
+mod Decoded
+mod Numbers
