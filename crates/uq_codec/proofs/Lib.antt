@@ -1,1 +1,5 @@
-pub mod Lengths
+mod Determined
+mod Forms
+mod Lengths
+mod Values
+mod Verdicts

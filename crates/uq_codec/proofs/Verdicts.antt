@@ -1,0 +1,23 @@
+-- What decoding answers, by the stored form alone.
+use Rattle.std.proofs.Common.{◌≡◌, ◌≢◌, ℕ, ◌≤◌, List, [], ◌∷◌, ◌++◌, length, take, drop, Result, Ok, Err, refl, sym, ap, subst, ◌∙◌, append-nil, arith}
+use Rattle.std.proofs.lemmas.List.{take-append-drop, length-take-le}
+use Rattle.std.proofs.Math.Seq.{take-append_seam}
+use Rattle.uq_value.specs.Data.{Bytes}
+use Rattle.uq_value.specs.Plain.{plain}
+use Rattle.uq_value.specs.declared.value.Value.{Value}
+use Rattle.uq_codec.specs.Stored.{IsStored}
+use Rattle.uq_codec.specs.Answer.{Answers}
+use Rattle.uq_codec.specs.declared.error.CodecFault.{CodecFault}
+use Rattle.uq_codec.specs.declared.error.CodecFault.TheVariants as fault
+use Rattle.uq_codec.proofs.Determined.{spelling_same}
+use Rattle.uq_codec.proofs.Values.{plain_one}
+
+pub decoded_again : (word rest : Bytes) (v : Value) (result : Result (Value × ℕ) CodecFault) → IsStored word v → Answers (word ++ rest) result → result ≢ Err fault.Memory → result ≡ Ok (v, length word)
+decoded_again word rest v (Ok x) is answers ample =
+    let same = spelling_same (plain x.0) (plain v) (take x.1 (word ++ rest)) word (drop x.1 (word ++ rest)) rest answers.1.spells is.spells (take-append-drop x.1 (word ++ rest)) in
+    let long : x.1 ≡ length word = sym (length-take-le x.1 (word ++ rest) answers.0) ∙ ap length same.word in
+    let values : x.0 ≡ v = plain_one x.0 v same.value in
+    ap (λ (u : Value). let r : Result (Value × ℕ) CodecFault = Ok (u, x.1) in r) values ∙ ap (λ (n : ℕ). let r : Result (Value × ℕ) CodecFault = Ok (v, n) in r) long
+decoded_again word rest v (Err fault.NotCanonical) is answers ample =
+    absurd (answers (length word) v (subst (λ (w : Bytes). IsStored w v) (sym (take-append_seam word rest)) is))
+decoded_again word rest v (Err fault.Memory) is answers ample = absurd (ample refl)
