@@ -1,11 +1,16 @@
 -- Numbers in groups of seven bits, group by group.
-use Rattle.std.proofs.Common.{◌≡◌, ℕ, zero, suc, ◌+◌, ◌-◌, ◌*◌, ◌/◌, ◌%◌, ◌<◌, ◌≤◌, List, [], ◌∷◌, ◌++◌, length, get_or, take, drop, take_all, refl, sym, ap, subst, ◌∙◌, append_assoc, arith}
-use Rattle.std.proofs.lemmas.List.{get_or-append-add}
+use Rattle.std.proofs.Common.{◌≡◌, ℕ, zero, suc, ◌+◌, ◌-◌, ◌*◌, ◌/◌, ◌%◌, ◌<◌, ◌≤◌, [], ◌∷◌, ◌++◌, length, length-append, get_or, take, drop, take_all, Option, Some, None, refl, sym, ap, subst, ◌∙◌, append_assoc, arith}
+use Rattle.std.specs.Borrow.{Bor}
+use Rattle.std.specs.List.{IsSplitAt}
+use Rattle.std.specs.Option.{MatchOption}
+use Rattle.std.proofs.lemmas.List.{get_or-append-add, take-append-drop}
 use Rattle.std.proofs.lemmas.Nat.{div-add-mod'}
 use Rattle.uq_value.specs.Data.{Bytes}
 use Rattle.uq_value.specs.Size.{most_size}
 use Rattle.uq_codec.specs.Varint.{IsVarint}
-use Rattle.uq_codec.specs.Reading.{Front, NoFront}
+use Rattle.uq_codec.specs.Stored.{IsName}
+use Rattle.uq_codec.specs.Reading.{Front, NoFront, ReadsLength, ReadsName}
+use Rattle.uq_codec.proofs.Determined.{varint_same}
 
 -- a group before others
 pub group_before : (tail : Bytes) (low high n : ℕ) → low < 128 → 0 < high → n ≡ low + 128 * high → IsVarint tail high → IsVarint ((low + 128) ∷ tail) n
@@ -88,13 +93,13 @@ one_read bytes rest group low weight more fits read = record {
   first = omega (arith, read.first);
   less = weighed_less low weight (group - 128) read.less (omega (arith, more, fits));
   completes = λ tail high counts is.
-    let filled : 0 < high = counts (omega (arith, read.first)) in
-    let group_is : (group - 128) + 128 ≡ group = omega (arith, more) in
-    let one : IsVarint (group ∷ tail) ((group - 128) + 128 * high) =
-        subst (λ (g : ℕ). IsVarint (g ∷ tail) ((group - 128) + 128 * high)) group_is (group_before tail (group - 128) high ((group - 128) + 128 * high) (omega (arith, more, fits)) filled refl is) in
-    let whole = read.completes (group ∷ tail) ((group - 128) + 128 * high) (λ h. omega (arith, filled)) one in
-    subst (λ (w : Bytes). IsVarint w (low + (group - 128) * weight + weight * 128 * high)) (sym (append_assoc read.front (group ∷ []) tail))
-    (subst (λ (n : ℕ). IsVarint (read.front ++ group ∷ tail) n) (weighed low weight (group - 128) high) whole);
+      let filled : 0 < high = counts (omega (arith, read.first)) in
+      let group_is : (group - 128) + 128 ≡ group = omega (arith, more) in
+      let one : IsVarint (group ∷ tail) ((group - 128) + 128 * high) =
+      subst (λ (g : ℕ). IsVarint (g ∷ tail) ((group - 128) + 128 * high)) group_is (group_before tail (group - 128) high ((group - 128) + 128 * high) (omega (arith, more, fits)) filled refl is) in
+      let whole = read.completes (group ∷ tail) ((group - 128) + 128 * high) (λ h. omega (arith, filled)) one in
+      subst (λ (w : Bytes). IsVarint w (low + (group - 128) * weight + weight * 128 * high)) (sym (append_assoc read.front (group ∷ []) tail))
+      (subst (λ (n : ℕ). IsVarint (read.front ++ group ∷ tail) n) (weighed low weight (group - 128) high) whole);
   is_completed = λ n behind f. more_left group rest behind low weight n more (read.is_completed n behind f);
 }
 
@@ -104,7 +109,7 @@ last_read bytes rest group low weight last counts read = record {
   word = read.front ++ group ∷ [];
   parts = read.parts ∙ sym (append_assoc read.front (group ∷ []) rest);
   is_word = let turned : weight * group ≡ group * weight = grind arith in
-    subst (λ (n : ℕ). IsVarint (read.front ++ group ∷ []) (low + n)) turned (read.completes (group ∷ []) group counts (last, refl));
+      subst (λ (n : ℕ). IsVarint (read.front ++ group ∷ []) (low + n)) turned (read.completes (group ∷ []) group counts (last, refl));
 }
 
 pub record Last (group low weight n : ℕ) : Type 0 where
@@ -161,3 +166,34 @@ pub is_byte : (bytes rest : Bytes) (low weight : ℕ) → HasRead bytes rest low
 is_byte bytes rest low weight read fit =
     let at : get_or bytes (length read.front + 0) 0 ≡ first_of rest = ap (λ (w : Bytes). get_or w (length read.front + 0) 0) read.parts ∙ get_or-append-add read.front rest 0 0 in
     subst (λ (b : ℕ). b < 256) at (fit (length read.front + 0))
+
+-- ---- a length and as many bytes
+
+-- a name's length stands before it
+length_first : (bytes name behind : Bytes) → Front (λ word. IsName word name) bytes behind → Front (λ word. IsVarint word (length name)) bytes (name ++ behind)
+length_first bytes name behind f = record {
+  word = f.is_word.count;
+  parts = f.parts ∙ ap (λ (w : Bytes). w ++ behind) f.is_word.parts ∙ append_assoc f.is_word.count name behind;
+  is_word = f.is_word.is_count;
+}
+
+pub no_name : (bytes : Bytes) → ReadsLength bytes None → ReadsName bytes None
+no_name bytes none name small behind f = none (length name) small (name ++ behind) (length_first bytes name behind f)
+
+pub name_cut : (bytes rest : Bytes) (len : ℕ) (result : Option (Bor Bytes × Bor Bytes)) → len ≤ most_size → Front (λ word. IsVarint word len) bytes rest →
+    MatchOption result (length rest < len) (λ p. IsSplitAt rest len p.0.now p.1.now) → ReadsName bytes result
+name_cut bytes rest len None small found short = λ name fits behind f.
+    let other = length_first bytes name behind f in
+    let same = varint_same found.word other.word rest (name ++ behind) len (length name) found.is_word other.is_word (sym found.parts ∙ other.parts) in
+    let long : length rest ≡ length name + length behind = ap length same.rest ∙ length-append name behind in
+    absurd (omega (arith, short, same.value, long))
+name_cut bytes rest len (Some (name, behind)) small found (within, front, back, long, other) =
+    let rest_is : rest ≡ name.now ++ behind.now =
+    sym (take-append-drop len rest) ∙ ap (λ (w : Bytes). w ++ drop len rest) (sym front) ∙ ap (λ (w : Bytes). name.now ++ w) (sym back) in (
+      record {
+        word = found.word ++ name.now;
+        parts = found.parts ∙ ap (λ (w : Bytes). found.word ++ w) rest_is ∙ sym (append_assoc found.word name.now behind.now);
+        is_word = record { count = found.word; parts = refl; is_count = subst (λ (n : ℕ). IsVarint found.word n) (sym long) found.is_word };
+      },
+      omega (arith, long, small),
+    )

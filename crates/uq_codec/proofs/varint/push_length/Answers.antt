@@ -1,4 +1,4 @@
-use Rattle.std.proofs.Common.{[], ◌∷◌, refl, sym, ◌∙◌, arith}
+use Rattle.std.proofs.Common.{[], ◌∷◌, refl, ◌∙◌, arith}
 use Rattle.uq_codec.proofs.Lengths.{one_written}
 use Rattle.uq_codec.proofs.varint.push_length.Goals as goal
 

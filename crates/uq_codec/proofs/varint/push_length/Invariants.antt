@@ -1,4 +1,3 @@
-use Rattle.std.proofs.Common.{◌≡◌, ◌++◌}
 use Rattle.uq_codec.proofs.Lengths.{Completes}
 use Rattle.uq_codec.proofs.varint.push_length.Given as goal
 
