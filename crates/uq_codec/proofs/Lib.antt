@@ -1,5 +1,6 @@
 mod Determined
 mod Forms
+mod Lengths
 mod Values
 mod Verdicts
 mod Decoded

@@ -26,25 +26,30 @@ pub(crate) fn push_length(out: &mut Vec<u8>, n: usize) -> Result<(), AllocError>
 pub(crate) fn read_length(bytes: &[u8]) -> Option<(usize, &[u8])>
     ensures { ReadsLength bytes.now result }
 {
-    let (n, rest) = match bytes {
-        [a, rest @ ..] if *a < 128 => (*a as usize, rest),
-        [a, b, rest @ ..] if 0 < *b && *b < 128 => (group(*a) + (*b as usize) * 128, rest),
-        [a, b, c, rest @ ..] if *b >= 128 && 0 < *c && *c < 128 => {
-            (group(*a) + (group(*b) + (*c as usize) * 128) * 128, rest)
+    // What the groups so far count together, and what one in the next group counts.
+    let (mut low, mut weight) = (0, 1);
+    let mut rest = bytes;
+    while weight <= MOST_SIZE {
+        let [group, behind @ ..] = rest else {
+            return None;
+        };
+        let group = *group as usize;
+        if group < 128 {
+            if group == 0 && weight > 1 {
+                return None;
+            }
+            let n = low + group * weight;
+            return if n > MOST_SIZE {
+                None
+            } else {
+                Some((n, behind))
+            };
         }
-        [a, b, c, d, rest @ ..] if *b >= 128 && *c >= 128 && 0 < *d && *d < 128 => (
-            group(*a) + (group(*b) + (group(*c) + (*d as usize) * 128) * 128) * 128,
-            rest,
-        ),
-        _ => return None,
-    };
-    if n > MOST_SIZE { None } else { Some((n, rest)) }
-}
-
-/// The seven bits of a group that is not the last.
-fn group(byte: u8) -> usize
-{
-    byte as usize - 128
+        low += (group - 128) * weight;
+        weight *= 128;
+        rest = behind;
+    }
+    None
 }
 
 /// A length and as many bytes, and the bytes behind them.
