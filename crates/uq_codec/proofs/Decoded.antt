@@ -6,7 +6,12 @@ use Rattle.uq_value.specs.Size.{data_size, items_size, members_size, most_size, 
 use Rattle.uq_value.specs.Depth.{data_depth, items_depth, members_depth, most_depth}
 use Rattle.uq_codec.specs.Varint.{IsVarint}
 use Rattle.uq_codec.specs.Stored.{IsWhole, IsName, Spells, SpellsItems, SpellsMembers}
-use Rattle.uq_codec.specs.Reading.{Front, NoFront, Fits}
+use Rattle.std.specs.Borrow.{Bor}
+use Rattle.uq_value.specs.declared.value.Value.{Value}
+use Rattle.uq_codec.specs.Kinds.{byte_of, ReadsKind}
+use Rattle.uq_codec.specs.Reading.{Front, NoFront, Fits, ReadsValue}
+use Rattle.uq_codec.specs.declared.kind.Kind.{Kind}
+use Rattle.uq_codec.specs.declared.error.CodecFault.{CodecFault}
 use Rattle.uq_codec.proofs.Determined.{Same, kind, Begins, begins, varint_same, name_same, whole_long, spelling_same, items_same, members_same}
 use Rattle.uq_codec.proofs.Forms.{items_count, members_count, leb_size_grows}
 use Rattle.uq_codec.proofs.Values.{list_and_back}
@@ -40,6 +45,15 @@ no_bytes d rest f = by (begins d f.word f.is_word)
   where
     by : Begins f.word (kind d) → ⊥
     by b = let same : [] ≡ kind d ∷ (b.tail ++ rest) = f.parts ∙ ap (λ (w : Bytes). w ++ rest) b.parts in cc
+
+pub no_kind_next : (bytes : Bytes) → ReadsKind bytes None → (d : Data) → NoFront (λ word. Spells word d) bytes
+no_kind_next [] none d = no_bytes d
+no_kind_next (byte ∷ bytes) none d = no_kind byte bytes none d
+
+pub at_kind : (room : ℕ) (bytes rest : Bytes) (one known : Kind) (result : Result (Value × Bor Bytes) CodecFault) → bytes ≡ byte_of one ∷ rest → one ≡ known → ReadsValue room (byte_of known ∷ rest) result → ReadsValue room bytes result
+at_kind room bytes rest one known result e is reads =
+    let whole : bytes ≡ byte_of known ∷ rest = e ∙ ap (λ (k : Kind). byte_of k ∷ rest) is in
+    subst (λ (w : Bytes). ReadsValue room w result) (sym whole) reads
 
 -- what a spelling of this kind has behind its byte
 behind_kind : (k : ℕ) (bytes word tail rest : Bytes) → k ∷ bytes ≡ word ++ rest → word ≡ k ∷ tail → bytes ≡ tail ++ rest

@@ -5,3 +5,5 @@ mod Values
 mod Verdicts
 mod Decoded
 mod Numbers
+mod Lists
+mod Objects

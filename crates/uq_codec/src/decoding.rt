@@ -93,12 +93,7 @@ fn list(alloc: Global, room: u32, bytes: &[u8]) -> Result<(Value, &[u8]), CodecF
 
 /// So many items of at most this depth.
 #[cycle(value)]
-fn items(
-    alloc: Global,
-    room: u32,
-    count: usize,
-    bytes: &[u8],
-) -> Result<(List, &[u8]), CodecFault>
+fn items(alloc: Global, room: u32, count: usize, bytes: &[u8]) -> Result<(List, &[u8]), CodecFault>
     requires { suc room ≤ most_depth }
     ensures { ReadsItems (suc room) count bytes.now result }
 {
@@ -179,11 +174,7 @@ fn members(
 
 /// A name and a value of at most this depth.
 #[cycle(value)]
-fn member(
-    alloc: Global,
-    room: u32,
-    bytes: &[u8],
-) -> Result<(&[u8], Value, &[u8]), CodecFault>
+fn member(alloc: Global, room: u32, bytes: &[u8]) -> Result<(&[u8], Value, &[u8]), CodecFault>
     requires { suc room ≤ most_depth }
     ensures { ReadsMember room bytes.now result }
 {

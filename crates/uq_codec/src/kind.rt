@@ -2,11 +2,17 @@
 ghost use Rattle.uq_codec.specs.Kinds.{IsKind, ReadsKind};
 
 pub(crate) const NULL: u8 = 0;
+
 pub(crate) const FALSE: u8 = 1;
+
 pub(crate) const TRUE: u8 = 2;
+
 pub(crate) const WHOLE: u8 = 3;
+
 pub(crate) const TEXT: u8 = 4;
+
 pub(crate) const LIST: u8 = 5;
+
 pub(crate) const OBJECT: u8 = 6;
 
 /// What a stored form begins as.
