@@ -3,3 +3,4 @@ mod Forms
 mod Lengths
 mod Values
 mod Verdicts
+mod Written
