@@ -1,16 +1,14 @@
 -- Numbers in groups of seven bits, group by group.
-use Rattle.std.proofs.Common.{◌≡◌, ℕ, zero, suc, ◌+◌, ◌-◌, ◌*◌, ◌/◌, ◌%◌, ◌<◌, ◌≤◌, [], ◌∷◌, ◌++◌, length, length-append, get_or, take, drop, take_all, Option, Some, None, refl, sym, ap, subst, ◌∙◌, append_assoc, append-nil, Ok, arith}
+use Rattle.std.proofs.Common.{◌≡◌, ℕ, zero, suc, ◌+◌, ◌-◌, ◌*◌, ◌<◌, ◌≤◌, [], ◌∷◌, ◌++◌, length, length-append, get_or, take, drop, take_all, Option, Some, None, refl, sym, ap, subst, ◌∙◌, append_assoc, arith}
 use Rattle.std.specs.Borrow.{Bor}
 use Rattle.std.specs.List.{IsSplitAt}
 use Rattle.std.specs.Option.{MatchOption}
 use Rattle.std.proofs.lemmas.List.{get_or-append-add, take-append-drop}
-use Rattle.std.proofs.lemmas.Nat.{div-add-mod'}
 use Rattle.uq_value.specs.Data.{Bytes}
 use Rattle.uq_value.specs.Size.{most_size}
 use Rattle.uq_codec.specs.Varint.{IsVarint}
 use Rattle.uq_codec.specs.Stored.{IsName}
 use Rattle.uq_codec.specs.Reading.{Front, NoFront, ReadsLength, ReadsName}
-use Rattle.uq_codec.specs.Writing.{Writes}
 use Rattle.uq_codec.proofs.Determined.{varint_same}
 
 -- a group before others

@@ -1,5 +1,5 @@
 -- What stands behind what stood there, part by part.
-use Rattle.std.proofs.Common.{◌≡◌, ℕ, zero, suc, ◌<◌, ◌≤◌, ◌+◌, max, List, [], ◌∷◌, ◌++◌, length, take, take_all, get_or, slice_get, Option, Some, None, Result, Ok, refl, sym, ap, subst, ◌∙◌, append_assoc, append-nil, add-one, arith}
+use Rattle.std.proofs.Common.{◌≡◌, ℕ, zero, suc, ◌<◌, ◌≤◌, ◌+◌, [], ◌∷◌, ◌++◌, length, take, take_all, get_or, slice_get, Option, Some, None, Result, Ok, refl, sym, ap, subst, ◌∙◌, append_assoc, append-nil, add-one, arith}
 use Rattle.std.proofs.lemmas.Result.{on_ok_weaker}
 use Rattle.uq_value.specs.Data.{Bytes, Data, Datas, Pairs, Items, no_items, item, Members, no_members, member, null, boolean, whole, text, sequence, mapping, items_of, list_of, members_of, pairs_of, list, object, names_of, IsDistinct}
 use Rattle.uq_value.specs.Depth.{data_depth, items_depth, members_depth}
@@ -115,17 +115,28 @@ pub list_written : {E : Type 0} (old out : Bytes) (at : ℕ) (ds : Datas) → at
 list_written old out at ds e all = record {
   word = 5 ∷ (all.count ++ all.body);
   parts = all.parts;
-  is_whole = (all.count, all.body, refl, subst (λ (es : Datas). IsVarint all.count (length es)) (sym (list_and_back ds)) all.is_count,
-    subst (λ (es : Datas). SpellsItems all.body (items_of es)) (take_all at ds (omega (arith, e))) all.spells);
+  is_whole = (
+    all.count,
+    all.body,
+    refl,
+    subst (λ (es : Datas). IsVarint all.count (length es)) (sym (list_and_back ds)) all.is_count,
+    subst (λ (es : Datas). SpellsItems all.body (items_of es)) (take_all at ds (omega (arith, e))) all.spells,
+  );
 }
 
 member_more : (ms : Pairs) (at : ℕ) (body word : Bytes) → at < length ms → SpellsMembers body (members_of (take at ms)) → SpellsMember (get_or ms at ([], null)) word → SpellsMembers (body ++ word) (members_of (take (suc at) ms))
 member_more [] at body word h so_far is = absurd (omega (arith, h))
 member_more (m ∷ ms) zero body word h so_far is =
     (is.label, is.front, [], ap (λ (w : Bytes). w ++ word) so_far ∙ is.parts ∙ ap (λ (w : Bytes). is.label ++ w) (sym (append-nil is.front)), is.is_name, is.is_value, refl)
-member_more (m ∷ ms) (suc at) body word h (label, front, back, parts, name, first, others) is =
-    (label, front, back ++ word, ap (λ (w : Bytes). w ++ word) parts ∙ append_assoc label (front ++ back) word ∙ ap (λ (w : Bytes). label ++ w) (append_assoc front back word),
-      name, first, member_more ms at back word (omega (arith, h)) others is)
+member_more (m ∷ ms) (suc at) body word h (label, front, back, parts, name, first, others) is = (
+  label,
+  front,
+  back ++ word,
+  ap (λ (w : Bytes). w ++ word) parts ∙ append_assoc label (front ++ back) word ∙ ap (λ (w : Bytes). label ++ w) (append_assoc front back word),
+  name,
+  first,
+  member_more ms at back word (omega (arith, h)) others is,
+)
 
 pub member_written : {E : Type 0} (old out now : Bytes) (at : ℕ) (ms : Pairs) → at < length ms → HasMembers old out at ms → Writes {E = E} (SpellsMemberAt ms at) out now (Ok tt) → HasMembers old now (at + 1) ms
 member_written old out now at ms h so_far one = record {
@@ -140,9 +151,14 @@ pub object_written : {E : Type 0} (old out : Bytes) (at : ℕ) (ms : Pairs) → 
 object_written old out at ms e distinct all = record {
   word = 6 ∷ (all.count ++ all.body);
   parts = all.parts;
-  is_whole = (all.count, all.body, refl, subst (λ (ns : Pairs). IsVarint all.count (length ns)) (sym (pairs_and_back ms)) all.is_count,
+  is_whole = (
+    all.count,
+    all.body,
+    refl,
+    subst (λ (ns : Pairs). IsVarint all.count (length ns)) (sym (pairs_and_back ms)) all.is_count,
     subst (λ (ns : Pairs). SpellsMembers all.body (members_of ns)) (take_all at ms (omega (arith, e))) all.spells,
-    subst (λ (ns : Pairs). IsDistinct (names_of ns)) (sym (pairs_and_back ms)) distinct);
+    subst (λ (ns : Pairs). IsDistinct (names_of ns)) (sym (pairs_and_back ms)) distinct,
+  );
 }
 
 -- a name, and its value behind it
@@ -152,6 +168,6 @@ named_written name v ms at old out now result there label one = record {
   word = label.word ++ one.word;
   parts = one.parts ∙ ap (λ (w : Bytes). w ++ one.word) label.parts ∙ append_assoc old label.word one.word;
   is_whole = on_ok_weaker result
-    (λ is. subst (λ (m : Bytes × Data). SpellsMember m (label.word ++ one.word)) there.is (record { label = label.word; front = one.word; parts = refl; is_name = label.is_whole; is_value = is }))
-    one.is_whole;
+      (λ is. subst (λ (m : Bytes × Data). SpellsMember m (label.word ++ one.word)) there.is (record { label = label.word; front = one.word; parts = refl; is_name = label.is_whole; is_value = is }))
+      one.is_whole;
 }

@@ -24,7 +24,10 @@ fn values_without_parts_are_written(rt: HostRuntime) {
         (Value::Int(0), b"\x03\0\0\0\0\0\0\0\0"),
         (Value::Int(1), b"\x03\0\0\0\0\0\0\0\x01"),
         (Value::Int(-1), b"\x03\xff\xff\xff\xff\xff\xff\xff\xff"),
-        (Value::Int(i64::MAX), b"\x03\x7f\xff\xff\xff\xff\xff\xff\xff"),
+        (
+            Value::Int(i64::MAX),
+            b"\x03\x7f\xff\xff\xff\xff\xff\xff\xff",
+        ),
         (Value::Int(i64::MIN), b"\x03\x80\0\0\0\0\0\0\0"),
         (Value::List(List::new(alloc)), b"\x05\x00"),
         (Value::Object(Object::new(alloc)), b"\x06\x00"),
