@@ -46,7 +46,7 @@ varint_same (g ∷ k ∷ a) (h ∷ l ∷ b) x y m n (low, high, small, is, fille
 pub name_same : (a b x y : Bytes) (m n : Bytes) → IsName a m → IsName b n → a ++ x ≡ b ++ y → Same m n a b x y
 name_same a b x y m n p q e =
     let regrouped : p.count ++ (m ++ x) ≡ q.count ++ (n ++ y) =
-        sym (append_assoc p.count m x) ∙ ap (λ (w : Bytes). w ++ x) (sym p.parts) ∙ e ∙ ap (λ (w : Bytes). w ++ y) q.parts ∙ append_assoc q.count n y in
+    sym (append_assoc p.count m x) ∙ ap (λ (w : Bytes). w ++ x) (sym p.parts) ∙ e ∙ ap (λ (w : Bytes). w ++ y) q.parts ∙ append_assoc q.count n y in
     let counts = varint_same p.count q.count (m ++ x) (n ++ y) (length m) (length n) p.is_count q.is_count regrouped in
     let names = split_same m n x y counts.value counts.rest in
     record {
@@ -84,7 +84,7 @@ whole_same a b x y m n p q e =
 -- ---- kinds
 
 -- the byte with which a spelling begins
-abbrev kind : Data → ℕ
+abbrev pub kind : Data → ℕ
 kind null = 0
 kind (boolean false) = 1
 kind (boolean true) = 2
@@ -93,11 +93,11 @@ kind (text bs) = 4
 kind (sequence ds) = 5
 kind (mapping ms) = 6
 
-record Begins (a : Bytes) (k : ℕ) : Type 0 where
-  tail : Bytes
-  parts : a ≡ k ∷ tail
+pub record Begins (a : Bytes) (k : ℕ) : Type 0 where
+  pub tail : Bytes
+  pub parts : a ≡ k ∷ tail
 
-begins : (d : Data) (a : Bytes) → Spells a d → Begins a (kind d)
+pub begins : (d : Data) (a : Bytes) → Spells a d → Begins a (kind d)
 begins null a p = record { tail = []; parts = p }
 begins (boolean false) a p = record { tail = []; parts = p }
 begins (boolean true) a p = record { tail = []; parts = p }
@@ -112,7 +112,7 @@ same_kind c d a b x y p q e = by (begins c a p) (begins d b q)
     by : Begins a (kind c) → Begins b (kind d) → kind c ≡ kind d
     by one other =
         let heads : kind c ∷ (one.tail ++ x) ≡ kind d ∷ (other.tail ++ y) =
-            ap (λ (w : Bytes). w ++ x) (sym one.parts) ∙ e ∙ ap (λ (w : Bytes). w ++ y) other.parts in cc
+        ap (λ (w : Bytes). w ++ x) (sym one.parts) ∙ e ∙ ap (λ (w : Bytes). w ++ y) other.parts in cc
 
 -- what stands behind the byte of the kind
 behind : (k : ℕ) (a b tail tail' x y : Bytes) → a ≡ k ∷ tail → b ≡ k ∷ tail' → a ++ x ≡ b ++ y → tail ++ x ≡ tail' ++ y
@@ -128,7 +128,7 @@ mapped : {A B : Type 0} (f : A → B) (c d : A) (a b x y : Bytes) → Same c d a
 mapped f c d a b x y same = record { value = ap f same.value; word = same.word; rest = same.rest }
 
 -- two words in a row
-in_a_row : (a b a' b' x y : Bytes) → (a ++ b) ++ x ≡ (a' ++ b') ++ y → a ++ (b ++ x) ≡ a' ++ (b' ++ y)
+pub in_a_row : (a b a' b' x y : Bytes) → (a ++ b) ++ x ≡ (a' ++ b') ++ y → a ++ (b ++ x) ≡ a' ++ (b' ++ y)
 in_a_row a b a' b' x y e = sym (append_assoc a b x) ∙ e ∙ append_assoc a' b' y
 
 pub both : (a b a' b' : Bytes) → a ≡ a' → b ≡ b' → a ++ b ≡ a' ++ b'

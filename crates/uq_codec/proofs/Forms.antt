@@ -136,3 +136,19 @@ mutual
       let others = members_long ms back (omega (arith, h)) are in
       let whole : length a ≡ length (label ++ (front ++ back)) = ap length parts in
       omega (arith, whole, length-append label (front ++ back), length-append front back, name, one, others)
+
+-- ---- longer counts
+
+leb_grows : (k n m : ℕ) → n ≤ m → leb_within k n ≤ leb_within k m
+leb_grows zero n m h = omega arith
+leb_grows (suc k) n m h = by (ltb n 128) (ltb m 128) refl refl (leb_grows k (n / 128) (m / 128) (omega (arith, h)))
+  where
+    by : (a b : Bool) → ltb n 128 ≡ a → ltb m 128 ≡ b → leb_within k (n / 128) ≤ leb_within k (m / 128) → cond a 1 (1 + leb_within k (n / 128)) ≤ cond b 1 (1 + leb_within k (m / 128))
+    by true true p q less = omega arith
+    by true false p q less = omega arith
+    by false true p q less = absurd (omega (arith, ltb-false n 128 p, ltb-true m 128 q, h))
+    by false false p q less = omega (arith, less)
+
+pub leb_size_grows : (n m : ℕ) → n ≤ m → leb_size n ≤ leb_size m
+unfolding leb_size
+leb_size_grows n m h = leb_grows 9 n m h

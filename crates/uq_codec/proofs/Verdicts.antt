@@ -1,11 +1,14 @@
 -- What decoding answers, by the stored form alone.
-use Rattle.std.proofs.Common.{◌≡◌, ◌≢◌, ℕ, ◌≤◌, List, [], ◌∷◌, ◌++◌, length, take, drop, Result, Ok, Err, refl, sym, ap, subst, ◌∙◌, append-nil, arith}
+use Rattle.std.proofs.Common.{◌≡◌, ◌≢◌, ℕ, ◌≤◌, ◌-◌, List, [], ◌∷◌, ◌++◌, length, length-append, take, drop, Result, Ok, Err, refl, sym, ap, subst, ◌∙◌, append-nil, arith}
 use Rattle.std.proofs.lemmas.List.{take-append-drop, length-take-le}
 use Rattle.std.proofs.Math.Seq.{take-append_seam}
 use Rattle.uq_value.specs.Data.{Bytes}
-use Rattle.uq_value.specs.Plain.{plain}
+use Rattle.uq_value.specs.Size.{most_size}
+use Rattle.uq_value.specs.Depth.{data_depth, most_depth}
+use Rattle.uq_value.specs.Plain.{plain, size}
 use Rattle.uq_value.specs.declared.value.Value.{Value}
-use Rattle.uq_codec.specs.Stored.{IsStored}
+use Rattle.uq_codec.specs.Stored.{Spells, IsStored}
+use Rattle.uq_codec.specs.Reading.{Front, ReadsValue}
 use Rattle.uq_codec.specs.Answer.{Answers}
 use Rattle.uq_codec.specs.declared.error.CodecFault.{CodecFault}
 use Rattle.uq_codec.specs.declared.error.CodecFault.TheVariants as fault
@@ -21,3 +24,17 @@ decoded_again word rest v (Ok x) is answers ample =
 decoded_again word rest v (Err fault.NotCanonical) is answers ample =
     absurd (answers (length word) v (subst (λ (w : Bytes). IsStored w v) (sym (take-append_seam word rest)) is))
 decoded_again word rest v (Err fault.Memory) is answers ample = absurd (ample refl)
+
+-- what was read is the stored form of the value
+pub decoded : (bytes rest : Bytes) (v : Value) → Front (λ word. Spells word (plain v)) bytes rest × (data_depth (plain v) ≤ most_depth) → size v ≤ most_size → Answers bytes (Ok (v, length bytes - length rest))
+decoded bytes rest v (f, shallow) small =
+    let long : length bytes ≡ length (f.word ++ rest) = ap length f.parts in
+    let taken : length bytes - length rest ≡ length f.word = omega (arith, long, length-append f.word rest) in
+    let word : take (length bytes - length rest) bytes ≡ f.word =
+    ap (λ (n : ℕ). take n bytes) taken ∙ ap (λ (w : Bytes). take (length f.word) w) f.parts ∙ take-append_seam f.word rest in
+    (omega arith, subst (λ (w : Bytes). IsStored w v) (sym word) (record { spells = f.is_word; small = small; shallow = shallow }))
+
+pub not_decoded : (bytes : Bytes) (e : CodecFault) → ReadsValue most_depth bytes (Err e) → Answers bytes (Err e)
+not_decoded bytes fault.Memory none = tt
+not_decoded bytes fault.NotCanonical none = λ n v is.
+    none (plain v) (record { shallow = is.shallow; small = is.small }) (drop n bytes) (record { word = take n bytes; parts = sym (take-append-drop n bytes); is_word = is.spells })

@@ -1,4 +1,5 @@
 pub mod Varint
+pub mod Kinds
 pub mod Stored
 pub mod Answer
 pub mod Reading

@@ -1,12 +1,15 @@
 -- What the private functions of the reader answer: what they read from the front of the bytes, and the bytes behind
 -- it. Nothing is read only where no front of the bytes spells what is asked for within the limits.
-use Rattle.std.specs.Prelude.{◌≡◌, ℕ, ◌+◌, ◌≤◌, ◌<◌, ◌++◌, length, Option, Some, None, Result, Ok, Err, Vec}
+use Rattle.std.specs.Prelude.{◌≡◌, ℕ, suc, ◌≤◌, ◌<◌, ◌∷◌, [], ◌++◌, length, Option, Some, None, Result, Ok, Err}
 use Rattle.std.specs.Borrow.{Bor}
-use Rattle.uq_value.specs.Data.{Bytes, Data, Datas, Pairs, list, object, items_of, members_of}
+use Rattle.uq_value.specs.Data.{Bytes, Data, Datas, Pairs, Items, Members, list, object, sequence, mapping, items_of, members_of, list_of, pairs_of, names_of, IsDistinct}
 use Rattle.uq_value.specs.Size.{data_size, most_size}
-use Rattle.uq_value.specs.Depth.{data_depth, items_depth, members_depth}
+use Rattle.uq_value.specs.Depth.{data_depth}
 use Rattle.uq_value.specs.Plain.{plain}
+use Rattle.uq_value.specs.Slots.{Slots, Stands}
 use Rattle.uq_value.specs.declared.value.Value.{Value}
+use Rattle.uq_value.specs.declared.error.ValueFault.{ValueFault}
+use Rattle.uq_value.specs.declared.error.ValueFault.TheVariants as value
 use Rattle.uq_codec.specs.Varint.{IsVarint}
 use Rattle.uq_codec.specs.Stored.{IsName, Spells, SpellsItems, SpellsMembers}
 use Rattle.uq_codec.specs.declared.error.CodecFault.{CodecFault}
@@ -48,3 +51,46 @@ abbrev pub ReadsValue : ℕ → Bytes → Result (Value × Bor Bytes) CodecFault
 ReadsValue room bytes = Reads
     (λ x. Front (λ word. Spells word (plain x.0)) bytes x.1.now × (data_depth (plain x.0) ≤ room))
     ((d : Data) → Fits room d → NoFront (λ word. Spells word d) bytes)
+
+-- so many items of a list of at most this depth
+abbrev pub ReadsItems : ℕ → ℕ → Bytes → Result (Datas × Bor Bytes) CodecFault → Type 0
+ReadsItems room count bytes = Reads
+    (λ x. Front (λ word. SpellsItems word (items_of x.0)) bytes x.1.now × (length x.0 ≡ count) × (data_depth (list x.0) ≤ room))
+    ((ds : Items) → length (list_of ds) ≡ count → Fits room (sequence ds) → NoFront (λ word. SpellsItems word ds) bytes)
+
+-- the limits of a value are those of its stored form
+abbrev pub Passes : ValueFault → CodecFault → Type 0
+Passes value.Memory fault = fault ≡ Memory
+Passes value.TooDeep fault = fault ≡ NotCanonical
+Passes value.TooLarge fault = fault ≡ NotCanonical
+Passes value.NotContainer fault = fault ≡ NotCanonical
+Passes value.IndexRange fault = fault ≡ NotCanonical
+
+-- an item comes to a list, unless that were too large
+abbrev pub AddsItem : Datas → Datas → Data → Result (Unit {0}) CodecFault → Type 0
+AddsItem before after d = Reads (λ done. after ≡ before ++ d ∷ []) (most_size < data_size (list (before ++ d ∷ [])))
+
+-- a name and a value
+pub record IsMember (word name : Bytes) (d : Data) : Type 0 where
+  pub label : Bytes
+  pub front : Bytes
+  pub parts : word ≡ label ++ front
+  pub is_name : IsName label name
+  pub is_value : Spells front d
+
+abbrev pub ReadsMember : ℕ → Bytes → Result (Bor Bytes × Value × Bor Bytes) CodecFault → Type 0
+ReadsMember room bytes = Reads
+    (λ x. Front (λ word. IsMember word x.0.now (plain x.1)) bytes x.2.now × (data_depth (plain x.1) ≤ room))
+    ((name : Bytes) (d : Data) → length name ≤ most_size → Fits room d → NoFront (λ word. IsMember word name d) bytes)
+
+-- the builder holds these members
+pub record Holds (slots : Slots) (room : ℕ) (ms : Pairs) : Type 0 where
+  pub stands : Stands slots ms
+  pub distinct : IsDistinct (names_of ms)
+  pub shallow : data_depth (object ms) ≤ room
+
+-- so many members of an object of at most this depth
+abbrev pub ReadsMembers : ℕ → ℕ → Bytes → Result (Slots × Bor Bytes) CodecFault → Type 0
+ReadsMembers room count bytes = Reads
+    (λ x. (ms : Pairs) × Front (λ word. SpellsMembers word (members_of ms)) bytes x.1.now × (length ms ≡ count) × Holds x.0 room ms)
+    ((ms : Members) → length (pairs_of ms) ≡ count → IsDistinct (names_of (pairs_of ms)) → Fits room (mapping ms) → NoFront (λ word. SpellsMembers word ms) bytes)

@@ -1,14 +1,186 @@
 //! Reading the stored form of a value.
+ghost use Rattle.std.specs.Prelude.{◌≡◌, ◌≤◌, ◌∷◌, ℕ, suc};
+ghost use Rattle.uq_value.specs.Data.{list as list_data};
+ghost use Rattle.uq_value.specs.Depth.{data_depth, most_depth};
+ghost use Rattle.uq_value.specs.Plain.{plain};
 ghost use Rattle.uq_codec.specs.Answer.{Answers};
+ghost use Rattle.uq_codec.specs.Stored.{IsWhole};
+ghost use Rattle.uq_codec.specs.Reading.{ReadsValue, ReadsItems, AddsItem, Passes, ReadsMember, ReadsMembers};
 
 use crate::error::CodecFault;
+use crate::kind::{Kind, next_kind};
+use crate::varint::{read_length, read_name};
 use std::alloc::Global;
-use uq_value::Value;
+use uq_value::{List, ObjectBuilder, Text, Value, ValueFault, within_limits};
+
+/// The greatest depth of a value.
+const MOST_DEPTH: u32 = 128;
 
 /// The value whose stored form is next, and how many bytes that takes. It is `NotCanonical` exactly where the bytes do
 /// not begin with a stored form.
 pub fn decode(alloc: Global, bytes: &[u8]) -> Result<(Value, usize), CodecFault>
     ensures { Answers bytes.now result }
 {
-    Err(CodecFault::Memory)
+    let (value, rest) = value(alloc, MOST_DEPTH, bytes)?;
+    within_limits(&value);
+    Ok((value, bytes.len() - rest.len()))
+}
+
+/// A value of at most this depth.
+#[cycle(value)]
+fn value(alloc: Global, room: u32, bytes: &[u8]) -> Result<(Value, &[u8]), CodecFault>
+    requires { room ≤ most_depth }
+    ensures { ReadsValue room bytes.now result }
+{
+    let Some((kind, rest)) = next_kind(bytes) else {
+        return Err(CodecFault::NotCanonical);
+    };
+    match kind {
+        Kind::Null => Ok((Value::Null, rest)),
+        Kind::False => Ok((Value::Bool(false), rest)),
+        Kind::True => Ok((Value::Bool(true), rest)),
+        Kind::Whole => whole(rest),
+        Kind::Text => text(alloc, rest),
+        Kind::List => list(alloc, room, rest),
+        Kind::Object => object(alloc, room, rest),
+    }
+}
+
+/// A whole number: eight bytes, the highest first.
+fn whole(bytes: &[u8]) -> Result<(Value, &[u8]), CodecFault>
+    ensures { (room : ℕ) → ReadsValue room (3 ∷ bytes.now) result }
+{
+    let Some((field, rest)) = bytes.split_first_chunk() else {
+        return Err(CodecFault::NotCanonical);
+    };
+    Ok((Value::Int(number(field)), rest))
+}
+
+fn number(field: &[u8; 8]) -> i64
+    ensures { IsWhole field.now result }
+{
+    i64::from_be_bytes(*field)
+}
+
+/// A text: its length, and as many bytes.
+fn text(alloc: Global, bytes: &[u8]) -> Result<(Value, &[u8]), CodecFault>
+    ensures { (room : ℕ) → ReadsValue room (4 ∷ bytes.now) result }
+{
+    let Some((text, rest)) = read_name(bytes) else {
+        return Err(CodecFault::NotCanonical);
+    };
+    match Text::new(alloc, text) {
+        Ok(text) => Ok((Value::Text(text), rest)),
+        Err(fault) => Err(refused(fault)),
+    }
+}
+
+/// A list: how many items it has, and these.
+#[cycle(value)]
+fn list(alloc: Global, room: u32, bytes: &[u8]) -> Result<(Value, &[u8]), CodecFault>
+    requires { room ≤ most_depth }
+    ensures { ReadsValue room (5 ∷ bytes.now) result }
+{
+    let Some((count, rest)) = read_length(bytes) else {
+        return Err(CodecFault::NotCanonical);
+    };
+    if room == 0 {
+        return Err(CodecFault::NotCanonical);
+    }
+    let (items, rest) = items(alloc, room - 1, count, rest)?;
+    Ok((Value::List(items), rest))
+}
+
+/// So many items of at most this depth.
+#[cycle(value)]
+fn items(alloc: Global, room: u32, count: usize, bytes: &[u8]) -> Result<(List, &[u8]), CodecFault>
+    requires { suc room ≤ most_depth }
+    ensures { ReadsItems (suc room) count bytes.now result }
+{
+    let mut found = List::new(alloc);
+    let mut rest = bytes;
+    for _ in 0..count {
+        let (item, behind) = value(alloc, room, rest)?;
+        add_item(&mut found, item)?;
+        rest = behind;
+    }
+    Ok((found, rest))
+}
+
+/// Appends an item. It is `NotCanonical` where the list would be too large.
+fn add_item(found: &mut List, item: Value) -> Result<(), CodecFault>
+    requires shallow_list { data_depth (list_data found.old) ≤ most_depth }
+    requires shallow_item { suc (data_depth (plain item)) ≤ most_depth }
+    ensures { AddsItem found.old found.new (plain item) result }
+{
+    match found.push(item) {
+        Ok(()) => Ok(()),
+        Err(fault) => Err(refused(fault)),
+    }
+}
+
+/// What is above a limit of values is no stored form.
+fn refused(fault: ValueFault) -> CodecFault
+    ensures { Passes fault result }
+{
+    match fault {
+        ValueFault::Memory => CodecFault::Memory,
+        _ => CodecFault::NotCanonical,
+    }
+}
+
+/// An object: how many members it has, and these.
+#[cycle(value)]
+fn object(alloc: Global, room: u32, bytes: &[u8]) -> Result<(Value, &[u8]), CodecFault>
+    requires { room ≤ most_depth }
+    ensures { ReadsValue room (6 ∷ bytes.now) result }
+{
+    let Some((count, rest)) = read_length(bytes) else {
+        return Err(CodecFault::NotCanonical);
+    };
+    if room == 0 {
+        return Err(CodecFault::NotCanonical);
+    }
+    let (members, rest) = members(alloc, room - 1, count, rest)?;
+    match members.finish(alloc) {
+        Ok(object) => Ok((Value::Object(object), rest)),
+        Err(fault) => Err(refused(fault)),
+    }
+}
+
+/// So many members with values of at most this depth and distinct names.
+#[cycle(value)]
+fn members(
+    alloc: Global,
+    room: u32,
+    count: usize,
+    bytes: &[u8],
+) -> Result<(ObjectBuilder, &[u8]), CodecFault>
+    requires { suc room ≤ most_depth }
+    ensures { ReadsMembers (suc room) count bytes.now result }
+{
+    let mut found = ObjectBuilder::new(alloc);
+    let mut rest = bytes;
+    for _ in 0..count {
+        let (name, value, behind) = member(alloc, room, rest)?;
+        let is_new = found.set(alloc, name, Some(value))?;
+        if !is_new {
+            return Err(CodecFault::NotCanonical);
+        }
+        rest = behind;
+    }
+    Ok((found, rest))
+}
+
+/// A name and a value of at most this depth.
+#[cycle(value)]
+fn member(alloc: Global, room: u32, bytes: &[u8]) -> Result<(&[u8], Value, &[u8]), CodecFault>
+    requires { suc room ≤ most_depth }
+    ensures { ReadsMember room bytes.now result }
+{
+    let Some((name, rest)) = read_name(bytes) else {
+        return Err(CodecFault::NotCanonical);
+    };
+    let (value, rest) = value(alloc, room, rest)?;
+    Ok((name, value, rest))
 }

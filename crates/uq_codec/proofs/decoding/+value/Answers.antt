@@ -1,0 +1,117 @@
+use Rattle.std.proofs.Common.{◌≡◌, ℕ, suc, ◌<◌, ◌≤◌, ◌+◌, ◌-◌, [], ◌∷◌, ◌++◌, length, refl, sym, ap, subst, ◌∙◌, add-one, arith}
+use Rattle.std.proofs.lemmas.Result.{err_from_is_err_and}
+use Rattle.uq_value.specs.Data.{Datas}
+use Rattle.uq_value.specs.Slots.{Slots}
+use Rattle.uq_value.specs.Plain.{plain}
+use Rattle.uq_codec.specs.declared.kind.Kind.TheVariants as kind
+use Rattle.uq_codec.proofs.Decoded.{ItemsSoFar, no_items_yet, one_item_more, at_kind, no_kind_next}
+use Rattle.uq_codec.proofs.Lists.{no_list, no_list_so_flat, list_fails, list_found, items_fails, items_full}
+use Rattle.uq_codec.proofs.Objects.{MembersSoFar, no_name, member_fails, member_found, no_members_yet, members_fail, repeated, one_member_more, members_found, no_object, no_object_so_flat, object_fails, object_found, object_refused}
+use Rattle.uq_codec.proofs.decoding.+value.Goals as goal
+
+pub items-loop-init : goal.items-loop-init
+items-loop-init t c = subst (λ (ds : Datas). ItemsSoFar (suc c.args.room) 0 ds c.args.bytes.now c.args.bytes.now) (sym c.new-found.ensures) (no_items_yet c.args.room c.args.bytes.now)
+
+pub items-returns-in_err-item : goal.items-returns-in_err-item
+items-returns-in_err-item t c =
+    let p = err_from_is_err_and c.from_residual.result c.from_residual.ensures.1 in
+    rw (p.1, p.2) (items_fails c.args.room c.loop.counter c.args.count c.loop.found c.args.bytes.now c.loop.rest.now c.in_err-item.field-0.0 c.loop.invariant (omega (arith, c.loop-test.true)) c.in_err-item.ensures)
+
+pub items-returns-in_err-add_item : goal.items-returns-in_err-add_item
+items-returns-in_err-add_item t c =
+    let p = err_from_is_err_and c.from_residual-in_err-add_item.result c.from_residual-in_err-add_item.ensures.1 in
+    rw (p.1, p.2) (items_full c.args.room c.loop.counter c.args.count c.loop.found c.add_item.new.found (plain c.in_ok-item.item) c.args.bytes.now c.loop.rest.now c.in_ok-item.behind.now c.in_err-add_item.field-0.0
+    c.loop.invariant (omega (arith, c.loop-test.true)) c.in_ok-item.ensures.0 c.in_err-add_item.ensures)
+
+pub items-loop-preserved : goal.items-loop-preserved
+items-loop-preserved t c =
+    subst (λ (ds : Datas). ItemsSoFar (suc c.args.room) (c.loop.counter + 1) ds c.args.bytes.now c.in_ok-item.behind.now) (sym c.in_ok-add_item.ensures)
+    (subst (λ (n : ℕ). ItemsSoFar (suc c.args.room) n (c.loop.found ++ plain c.in_ok-item.item ∷ []) c.args.bytes.now c.in_ok-item.behind.now) (sym (add-one c.loop.counter))
+    (one_item_more c.args.room c.loop.counter c.loop.found (plain c.in_ok-item.item) c.args.bytes.now c.loop.rest.now c.in_ok-item.behind.now c.loop.invariant c.in_ok-item.ensures.0 c.in_ok-item.ensures.1))
+
+pub items-returns : goal.items-returns
+items-returns t c = (c.loop.invariant.front, omega (arith, c.loop.invariant.count, c.loop-test.false, c.loop.auto.counter-end), c.loop.invariant.shallow)
+
+pub list-returns-in_default : goal.list-returns-in_default
+list-returns-in_default t c = no_list c.args.bytes.now c.in_default.ensures c.args.room
+
+pub list-returns-then-room-eq0 : goal.list-returns-then-room-eq0
+list-returns-then-room-eq0 t c = no_list_so_flat c.args.bytes.now c.args.room c.if-room-eq0.true
+
+pub list-returns-in_err-items : goal.list-returns-in_err-items
+list-returns-in_err-items t c =
+    let p = err_from_is_err_and c.from_residual.result c.from_residual.ensures.1 in
+    rw (p.1, p.2) (list_fails c.args.room (c.args.room - 1) c.in-Some.count c.args.bytes.now c.in-Some.rest.now c.in_err-items.field-0.0 (omega (arith, c.if-room-eq0.false)) c.in-Some.ensures.0 c.in_err-items.ensures)
+
+pub list-returns : goal.list-returns
+list-returns t c = list_found c.args.room (c.args.room - 1) c.in-Some.count c.args.bytes.now c.in-Some.rest.now c.in_ok-items.rest.now c.in_ok-items.items (omega (arith, c.if-room-eq0.false)) c.in-Some.ensures.0 c.in_ok-items.ensures
+
+pub member-returns-in_default : goal.member-returns-in_default
+member-returns-in_default t c = no_name c.args.room c.args.bytes.now c.in_default.ensures
+
+pub member-returns-in_err-value : goal.member-returns-in_err-value
+member-returns-in_err-value t c =
+    let p = err_from_is_err_and c.from_residual.result c.from_residual.ensures.1 in
+    rw (p.1, p.2) (member_fails c.args.room c.args.bytes.now c.in-Some.name.now c.in-Some.rest.now c.in_err-value.field-0.0 c.in-Some.ensures.0 c.in_err-value.ensures)
+
+pub member-returns : goal.member-returns
+member-returns t c = member_found c.args.room c.args.bytes.now c.in-Some.name.now c.in-Some.rest.now c.in_ok-value.rest.now c.in_ok-value.value c.in-Some.ensures.0 c.in_ok-value.ensures
+
+pub members-loop-init : goal.members-loop-init
+members-loop-init t c = no_members_yet c.args.room c.new-found.result c.args.bytes.now c.new-found.ensures
+
+pub members-returns-in_err-name : goal.members-returns-in_err-name
+members-returns-in_err-name t c =
+    let p = err_from_is_err_and c.from_residual.result c.from_residual.ensures.1 in
+    rw (p.1, p.2) (members_fail c.args.room c.loop.counter c.args.count c.loop.found c.args.bytes.now c.loop.rest.now c.in_err-name.field-0.0 c.loop.invariant (omega (arith, c.loop-test.true)) c.in_err-name.ensures)
+
+pub members-returns-then-not-is_new : goal.members-returns-then-not-is_new
+members-returns-then-not-is_new t c =
+    repeated c.args.room c.loop.counter c.args.count c.loop.found c.set.new.self c.in_ok-name.name.now c.in_ok-name.value c.args.bytes.now c.loop.rest.now c.in_ok-name.behind.now c.in_ok-is_new.is_new
+    c.loop.invariant (omega (arith, c.loop-test.true)) c.in_ok-name.ensures.0 c.in_ok-is_new.ensures.ok c.if-not-is_new.true
+
+pub members-loop-preserved : goal.members-loop-preserved
+members-loop-preserved t c =
+    subst (λ (n : ℕ). MembersSoFar (suc c.args.room) n c.set.new.self c.args.bytes.now c.in_ok-name.behind.now) (sym (add-one c.loop.counter))
+    (one_member_more c.args.room c.loop.counter c.loop.found c.set.new.self c.in_ok-name.name.now c.in_ok-name.value c.args.bytes.now c.loop.rest.now c.in_ok-name.behind.now c.in_ok-is_new.is_new
+    c.loop.invariant c.in_ok-name.ensures.0 c.in_ok-name.ensures.1 c.in_ok-is_new.ensures.ok c.if-not-is_new.false)
+
+pub members-returns : goal.members-returns
+members-returns t c =
+    members_found c.args.room c.args.count c.loop.found c.args.bytes.now c.loop.rest.now
+    (subst (λ (n : ℕ). MembersSoFar (suc c.args.room) n c.loop.found c.args.bytes.now c.loop.rest.now) (omega (arith, c.loop-test.false, c.loop.auto.counter-end)) c.loop.invariant)
+
+pub object-returns-in_default : goal.object-returns-in_default
+object-returns-in_default t c = no_object c.args.bytes.now c.in_default.ensures c.args.room
+
+pub object-returns-then-room-eq0 : goal.object-returns-then-room-eq0
+object-returns-then-room-eq0 t c = no_object_so_flat c.args.bytes.now c.args.room c.if-room-eq0.true
+
+pub object-returns-in_err-members : goal.object-returns-in_err-members
+object-returns-in_err-members t c =
+    let p = err_from_is_err_and c.from_residual.result c.from_residual.ensures.1 in
+    rw (p.1, p.2) (object_fails c.args.room (c.args.room - 1) c.in-Some.count c.args.bytes.now c.in-Some.rest.now c.in_err-members.field-0.0 (omega (arith, c.if-room-eq0.false)) c.in-Some.ensures.0 c.in_err-members.ensures)
+
+pub object-returns-in-Ok : goal.object-returns-in-Ok
+object-returns-in-Ok t c =
+    object_found c.args.room (c.args.room - 1) c.in-Some.count c.args.bytes.now c.in-Some.rest.now c.in_ok-members.rest.now c.in_ok-members.members c.in-Ok.object (omega (arith, c.if-room-eq0.false)) c.in-Some.ensures.0 c.in_ok-members.ensures c.in-Ok.ensures
+
+pub object-returns-in-Err : goal.object-returns-in-Err
+object-returns-in-Err t c =
+    object_refused c.args.room (c.args.room - 1) c.in-Some.count c.args.bytes.now c.in-Some.rest.now c.in_ok-members.rest.now c.in_ok-members.members c.in-Err.fault c.refused.result c.requires (omega (arith, c.if-room-eq0.false)) c.in-Some.ensures.0
+    c.in_ok-members.ensures c.in-Err.ensures c.refused.ensures
+
+pub value-returns-in_default : goal.value-returns-in_default
+value-returns-in_default t c d fits = no_kind_next c.args.bytes.now c.in_default.ensures d
+
+pub value-returns-in-Whole : goal.value-returns-in-Whole
+value-returns-in-Whole t c = at_kind c.args.room c.args.bytes.now c.in-Some.rest.now c.in-Some.kind kind.Whole c.whole.result c.in-Some.ensures c.in-Whole.is (c.whole.ensures c.args.room)
+
+pub value-returns-in-Text : goal.value-returns-in-Text
+value-returns-in-Text t c = at_kind c.args.room c.args.bytes.now c.in-Some.rest.now c.in-Some.kind kind.Text c.text.result c.in-Some.ensures c.in-Text.is (c.text.ensures c.args.room)
+
+pub value-returns-in-List : goal.value-returns-in-List
+value-returns-in-List t c = at_kind c.args.room c.args.bytes.now c.in-Some.rest.now c.in-Some.kind kind.List c.list.result c.in-Some.ensures c.in-List.is c.list.ensures
+
+pub value-returns-in-Object : goal.value-returns-in-Object
+value-returns-in-Object t c = at_kind c.args.room c.args.bytes.now c.in-Some.rest.now c.in-Some.kind kind.Object c.object.result c.in-Some.ensures c.in-Object.is c.object.ensures
