@@ -1,10 +1,9 @@
 -- Numbers in groups of seven bits, group by group.
-use Rattle.std.proofs.Common.{◌≡◌, ℕ, zero, suc, ◌+◌, ◌-◌, ◌*◌, ◌/◌, ◌%◌, ◌<◌, ◌≤◌, [], ◌∷◌, ◌++◌, length, length-append, get_or, take, drop, take_all, Option, Some, None, refl, sym, ap, subst, ◌∙◌, append_assoc, arith}
+use Rattle.std.proofs.Common.{◌≡◌, ℕ, zero, suc, ◌+◌, ◌-◌, ◌*◌, ◌<◌, ◌≤◌, [], ◌∷◌, ◌++◌, length, length-append, get_or, take, drop, take_all, Option, Some, None, refl, sym, ap, subst, ◌∙◌, append_assoc, arith}
 use Rattle.std.specs.Borrow.{Bor}
 use Rattle.std.specs.List.{IsSplitAt}
 use Rattle.std.specs.Option.{MatchOption}
 use Rattle.std.proofs.lemmas.List.{get_or-append-add, take-append-drop}
-use Rattle.std.proofs.lemmas.Nat.{div-add-mod'}
 use Rattle.uq_value.specs.Data.{Bytes}
 use Rattle.uq_value.specs.Size.{most_size}
 use Rattle.uq_codec.specs.Varint.{IsVarint}
@@ -19,15 +18,11 @@ group_before (next ∷ groups) low high n small filled number is = (low, high, s
 
 -- ---- writing
 
--- whatever spells what is left completes the number
-abbrev pub Completes : Bytes → Bytes → ℕ → ℕ → Type 0
-Completes old out left n = (tail : Bytes) → IsVarint tail left → (word : Bytes) × (out ++ tail ≡ old ++ word) × IsVarint word n
-
-pub one_written : (old out now : Bytes) (left n : ℕ) → 128 ≤ left → now ≡ out ++ (left % 128 + 128) ∷ [] → Completes old out left n → Completes old now (left / 128) n
-one_written old out now left n more is before tail t =
-    let number : left ≡ left % 128 + 128 * (left / 128) = omega (arith, div-add-mod' left 128) in
-    let (word, parts, spells) = before ((left % 128 + 128) ∷ tail) (group_before tail (left % 128) (left / 128) left (omega arith) (omega (arith, more)) number t) in
-    (word, ap (λ (w : Bytes). w ++ tail) is ∙ append_assoc out ((left % 128 + 128) ∷ []) tail ∙ parts, spells)
+-- groups have been written, and whatever spells what is left completes the number
+pub record HasWritten (old out : Bytes) (left n : ℕ) : Type 0 where
+  pub word : Bytes
+  pub parts : out ≡ old ++ word
+  pub completes : (tail : Bytes) → IsVarint tail left → IsVarint (word ++ tail) n
 
 -- ---- reading
 

@@ -1,9 +1,10 @@
+mod Decoded
 mod Determined
 mod Forms
 mod Lengths
+mod Lists
+mod Numbers
+mod Objects
 mod Values
 mod Verdicts
-mod Decoded
-mod Numbers
-mod Lists
-mod Objects
+mod Written

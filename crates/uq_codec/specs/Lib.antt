@@ -3,4 +3,5 @@ pub mod Kinds
 pub mod Stored
 pub mod Answer
 pub mod Reading
+pub mod Writing
 pub mod Laws

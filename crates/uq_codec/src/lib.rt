@@ -6,6 +6,8 @@ mod encoding;
 mod error;
 mod kind;
 mod laws;
+#[cfg(test)]
+mod tests;
 mod varint;
 
 pub use decoding::decode;

@@ -1,8 +1,7 @@
 //! Lengths and counts: unsigned LEB128 in the shortest spelling.
-ghost use Rattle.std.specs.Prelude.{◌≡◌, ◌++◌, OnOk};
-ghost use Rattle.uq_value.specs.Data.{Bytes};
 ghost use Rattle.uq_codec.specs.Varint.{IsVarint};
 ghost use Rattle.uq_codec.specs.Reading.{ReadsLength, ReadsName};
+ghost use Rattle.uq_codec.specs.Writing.{Writes};
 
 use std::alloc::AllocError;
 
@@ -11,7 +10,7 @@ const MOST_SIZE: usize = 16_777_152;
 
 /// Appends a length or count.
 pub(crate) fn push_length(out: &mut Vec<u8>, n: usize) -> Result<(), AllocError>
-    ensures { OnOk result ((word : Bytes) × (out.new.items ≡ out.old.items ++ word) × IsVarint word n) }
+    ensures { Writes (λ word. IsVarint word n) out.old.items out.new.items result }
 {
     let mut rest = n;
     while rest >= 128 {

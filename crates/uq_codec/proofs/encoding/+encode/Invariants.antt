@@ -1,0 +1,27 @@
+use Rattle.std.proofs.Common.{◌+◌, ◌*◌}
+use Rattle.uq_value.specs.Data.{list as list_data, object as object_data}
+use Rattle.uq_value.specs.Depth.{data_depth}
+use Rattle.uq_value.specs.Plain.{plain}
+use Rattle.uq_codec.proofs.Written.{HasItems, HasMembers}
+use Rattle.uq_codec.proofs.encoding.+encode.Given as goal
+
+abbrev pub decreases-push_value : goal.decreases-push_value
+decreases-push_value l = 4 * data_depth (plain l.v.now) + 3
+
+abbrev pub decreases-push_list : goal.decreases-push_list
+decreases-push_list l = 4 * data_depth (list_data l.list.now) + 2
+
+abbrev pub decreases-push_item : goal.decreases-push_item
+decreases-push_item l = 4 * data_depth (list_data l.list.now) + 1
+
+abbrev pub decreases-push_object : goal.decreases-push_object
+decreases-push_object l = 4 * data_depth (object_data l.object.now) + 2
+
+abbrev pub decreases-push_member : goal.decreases-push_member
+decreases-push_member l = 4 * data_depth (object_data l.object.now) + 1
+
+abbrev pub invariant-push_list-loop-at : goal.invariant-push_list-loop-at
+invariant-push_list-loop-at l = HasItems l.fn.out.items l.out.items l.at l.list
+
+abbrev pub invariant-push_object-loop-at : goal.invariant-push_object-loop-at
+invariant-push_object-loop-at l = HasMembers l.fn.out.items l.out.items l.at l.object

@@ -1,0 +1,26 @@
+-- What the private functions of the writer leave: what stood there, and behind it what they wrote.
+use Rattle.std.specs.Prelude.{◌≡◌, ℕ, ◌++◌, [], Result, OnOk, slice_index_or}
+use Rattle.uq_value.specs.Data.{Bytes, Data, Datas, Pairs, null}
+use Rattle.uq_codec.specs.Stored.{IsName, Spells}
+
+-- behind what stood there stands a word, and where all of it was written, the word is whole
+pub record Writes {E : Type 0} (Whole : Bytes → Type 0) (old new : Bytes) (result : Result (Unit {0}) E) : Type 0 where
+  pub word : Bytes
+  pub parts : new ≡ old ++ word
+  pub is_whole : OnOk result (Whole word)
+
+-- the item at a place
+abbrev pub SpellsItemAt : Datas → ℕ → Bytes → Type 0
+SpellsItemAt ds at word = Spells word (slice_index_or ds at null)
+
+-- a member: a name, and a value
+pub record SpellsMember (m : Bytes × Data) (word : Bytes) : Type 0 where
+  pub label : Bytes
+  pub front : Bytes
+  pub parts : word ≡ label ++ front
+  pub is_name : IsName label m.0
+  pub is_value : Spells front m.1
+
+-- the member at a place
+abbrev pub SpellsMemberAt : Pairs → ℕ → Bytes → Type 0
+SpellsMemberAt ms at word = SpellsMember (slice_index_or ms at ([], null)) word
