@@ -331,15 +331,12 @@ literal_refused = literal_not_there
 pub text_kept : (ts rest bs : Bytes) (t : Bytes) → inside_at ts ≡ Ok (bs, rest) → t ≡ bs → (d : Data) × (string_data_at ts ≡ Ok (d, rest)) × (text t ≡ d)
 text_kept ts rest bs t e same = (text bs, ap (λ (q : Read Bytes). q >>= λ x. Ok (text x.0, x.1)) e, ap text same)
 
-pub text_left_out : (ts rest bs : Bytes) (why : ValueFault) → inside_at ts ≡ Ok (bs, rest) → TextFault bs why → (why ≡ value.Memory → ⊥) → (d : Data) × (string_data_at ts ≡ Ok (d, rest)) × (most_size < data_size d)
-text_left_out ts rest bs why e is other = (text bs, ap (λ (q : Read Bytes). q >>= λ x. Ok (text x.0, x.1)) e, by why is other)
+pub text_left_out : (ts rest bs : Bytes) → inside_at ts ≡ Ok (bs, rest) → (text_size bs ≤ most_size → false ≡ true) → (d : Data) × (string_data_at ts ≡ Ok (d, rest)) × (most_size < data_size d)
+text_left_out ts rest bs e fits' = (text bs, ap (λ (q : Read Bytes). q >>= λ x. Ok (text x.0, x.1)) e, by (ltb most_size (text_size bs)) refl)
   where
-    by : (why : ValueFault) → TextFault bs why → (why ≡ value.Memory → ⊥) → most_size < data_size (text bs)
-    by value.TooLarge above no' = above
-    by value.Memory tt' no' = absurd (no' refl)
-    by value.TooDeep is no' = absurd is
-    by value.NotContainer is no' = absurd is
-    by value.IndexRange is no' = absurd is
+    by : (b : Bool) → ltb most_size (text_size bs) ≡ b → most_size < data_size (text bs)
+    by true is = ltb-true most_size (text_size bs) is
+    by false is = let clash = fits' (not_below most_size (text_size bs) is) in absurd (cc)
 
 -- ---- a value with blanks, and a level more
 

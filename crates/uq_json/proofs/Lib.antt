@@ -15,3 +15,4 @@ pub mod Verdicts
 pub mod Decimals
 pub mod Gathering
 pub mod Printed
+pub mod Verbatim

@@ -1,5 +1,5 @@
 -- Reading from the left: what is read and the bytes behind it, or the fault at which reading stops.
-use Rattle.std.specs.Prelude.{◌≡◌, ℕ, zero, suc, ◌+◌, ℤ, Bool, true, false, ◌==◌, nat_le, ◌&&◌, if◌then◌else◌, List, [], ◌∷◌, ◌++◌, length, drop, Option, Some, None, Result, Ok, Err, codes}
+use Rattle.std.specs.Prelude.{◌≡◌, ℕ, zero, suc, ◌+◌, ℤ, Bool, true, false, ◌==◌, nat_le, not, ◌&&◌, if◌then◌else◌, List, [], ◌∷◌, ◌++◌, length, drop, Option, Some, None, Result, Ok, Err, codes}
 use Rattle.std.specs.Char.{is_ascii_digit}
 use Rattle.uq_value.specs.Data.{Bytes, Data, Pairs, null, boolean, whole, text, list, object}
 use Rattle.uq_value.specs.Number.{digits_value, positive, negative}
@@ -91,6 +91,18 @@ escape_at (c ∷ cs) = if c == 0x75 then unicode_at cs else letter_or_fault (let
 abbrev pub piece_at : Bytes → Read Piece
 piece_at [] = Err NotJson
 piece_at (c ∷ cs) = if c == 0x5c then escape_at cs else (if nat_le 0x20 c then Ok (byte c, cs) else Err NotJson)
+
+-- a byte that stands for itself, and ends no string
+abbrev pub is_verbatim : ℕ → Bool
+is_verbatim c = nat_le 0x20 c && not (c == 0x22) && not (c == 0x5c)
+
+abbrev pub verbatim_of : Bytes → Bytes
+verbatim_of [] = []
+verbatim_of (c ∷ cs) = if is_verbatim c then c ∷ verbatim_of cs else []
+
+abbrev pub behind_verbatim : Bytes → Bytes
+behind_verbatim [] = []
+behind_verbatim (c ∷ cs) = if is_verbatim c then behind_verbatim cs else c ∷ cs
 
 -- pieces up to the quote, at most so many
 abbrev pub pieces_within : ℕ → Bytes → Read (List Piece)

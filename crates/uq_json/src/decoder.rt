@@ -1,6 +1,6 @@
 // The bytes of a JSON string, piece by piece.
 
-ghost use Rattle.std.specs.Prelude.{◌≡◌, ◌+◌, ◌-◌, ◌*◌, ◌<◌, ◌^◌, ◌%◌, ◌++◌, ◌∷◌, [], List, None, OnOk, IfOk, IsTrue, ◌&&◌};
+ghost use Rattle.std.specs.Prelude.{◌≡◌, ◌+◌, ◌-◌, ◌*◌, ◌<◌, ◌^◌, ◌%◌, ◌++◌, ◌∷◌, [], List, map, None, OnOk, IfOk, IsTrue, ◌&&◌};
 ghost use Rattle.uq_json.specs.Decoding.{piece as spec_piece, bytes_behind, waiting_bytes};
 ghost use Rattle.uq_json.specs.Strings.{Piece as Piece', is_high as spec_is_high, is_low as spec_is_low, pair as spec_pair, utf8};
 
@@ -39,6 +39,20 @@ impl Decoder {
             }
             Piece::Code(code) => self.push_code(code),
         }
+    }
+
+    /// Takes bytes that stand for themselves.
+    pub(crate) fn push_bytes(&mut self, bytes: &[u8]) -> Result<(), AllocError>
+        ensures { OnOk result ((others : List Piece') →
+            self.new.bytes.items ++ bytes_behind self.new.waiting others
+            ≡ self.old.bytes.items ++ bytes_behind self.old.waiting (map Piece'.byte bytes.now ++ others)) }
+    {
+        if bytes.is_empty() {
+            return Ok(());
+        }
+        self.flush()?;
+        self.bytes.extend_from_slice(bytes)?;
+        Ok(())
     }
 
     fn push_code(&mut self, code: u16) -> Result<(), AllocError>

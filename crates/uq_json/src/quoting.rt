@@ -4,6 +4,7 @@ ghost use Rattle.std.specs.Prelude.{◌≡◌, ◌<◌, ◌++◌, OnOk, IfOk};
 ghost use Rattle.uq_json.specs.Quote.{escaped, escaped_control, quoted};
 ghost use Rattle.uq_json.specs.Strings.{IsString};
 
+use crate::scanning::split_verbatim;
 use std::alloc::{AllocError, Global};
 use uq_value::NoMemory;
 
@@ -27,11 +28,17 @@ pub(crate) fn push_quoted(text: &mut Vec<u8>, bytes: &[u8]) -> Result<(), AllocE
     ensures { OnOk result (text.new.items ≡ text.old.items ++ quoted bytes.now) }
 {
     text.push(b'"')?;
-    for byte in bytes {
+    let mut rest = bytes;
+    'escapes: loop {
+        let (verbatim, behind) = split_verbatim(rest);
+        text.extend_from_slice(verbatim)?;
+        let [byte, after @ ..] = behind else {
+            text.push(b'"')?;
+            return Ok(());
+        };
         push_escaped(text, *byte)?;
+        rest = after;
     }
-    text.push(b'"')?;
-    Ok(())
 }
 
 fn push_escaped(text: &mut Vec<u8>, byte: u8) -> Result<(), AllocError>

@@ -251,9 +251,9 @@ fn string_value(alloc: Global, text: &[u8]) -> Result<(Option<Value>, &[u8]), Js
     ensures { Finds result (string_data_at text.now) }
 {
     let (bytes, rest) = inside(alloc, text)?;
-    match Text::new(alloc, bytes.as_slice()) {
+    match Text::from_vec(bytes) {
         Ok(text) => Ok((Some(Value::Text(text)), rest)),
-        Err(fault) => Ok((left_out(fault)?, rest)),
+        Err(_) => Ok((None, rest)),
     }
 }
 

@@ -1,10 +1,10 @@
-// Looking at the bytes that are next: blanks, single bytes, words and digits.
+// Looking at the bytes that are next: blanks, single bytes, digits, and what stands for itself in a string.
 
 ghost use Rattle.std.specs.Prelude.{◌≡◌, ◌<◌, length, true, IsTrue};
 ghost use Rattle.std.specs.Char.{is_ascii_digit};
 ghost use Rattle.std.specs.List.{list_all};
 ghost use Rattle.uq_json.specs.Grammar.{is_blank as spec_is_blank};
-ghost use Rattle.uq_json.specs.Reading.{is_next, skip_blanks as spec_skip_blanks, digits_of, behind_digits};
+ghost use Rattle.uq_json.specs.Reading.{is_next, skip_blanks as spec_skip_blanks, digits_of, behind_digits, is_verbatim as spec_is_verbatim, verbatim_of, behind_verbatim};
 
 /// Whether this byte is next.
 pub(crate) fn next_is(byte: u8, text: &[u8]) -> bool
@@ -42,6 +42,25 @@ pub(crate) fn split_digits(text: &[u8]) -> (&[u8], &[u8])
 {
     let mut count = 0;
     while count < text.len() && text[count].is_ascii_digit() {
+        count += 1;
+    }
+    text.split_at(count)
+}
+
+/// Whether the byte stands for itself in a string, read or written: it is no quote, backslash or control byte.
+fn is_verbatim(byte: u8) -> bool
+    ensures { result ≡ spec_is_verbatim byte }
+{
+    byte >= 0x20 && byte != b'"' && byte != b'\\'
+}
+
+/// The bytes that are next and stand for themselves in a string, and those behind them.
+pub(crate) fn split_verbatim(text: &[u8]) -> (&[u8], &[u8])
+    ensures verbatim { result.0.now ≡ verbatim_of text.now }
+    ensures rest { result.1.now ≡ behind_verbatim text.now }
+{
+    let mut count = 0;
+    while count < text.len() && is_verbatim(text[count]) {
         count += 1;
     }
     text.split_at(count)

@@ -9,7 +9,7 @@ ghost use Rattle.uq_json.specs.Reading.{Gives, inside_at, string_at};
 use crate::decoder::Decoder;
 use crate::error::JsonFault;
 use crate::piece::first_piece;
-use crate::scanning::next_is;
+use crate::scanning::{next_is, split_verbatim};
 use std::alloc::Global;
 
 /// The bytes of a JSON string (RFC 8259, section 7) that is the whole text, without blanks around it. It is `NotJson`
@@ -47,11 +47,15 @@ pub(crate) fn inside(alloc: Global, text: &[u8]) -> Result<(Vec<u8>, &[u8]), Jso
 {
     let mut decoder = Decoder::new(alloc);
     let mut rest = text;
-    while !next_is(b'"', rest) {
-        let (piece, after) = first_piece(rest)?;
+    'pieces: loop {
+        let (verbatim, behind) = split_verbatim(rest);
+        decoder.push_bytes(verbatim)?;
+        if next_is(b'"', behind) {
+            decoder.flush()?;
+            return Ok((decoder.bytes, &behind[1..]));
+        }
+        let (piece, after) = first_piece(behind)?;
         decoder.push(piece)?;
         rest = after;
     }
-    decoder.flush()?;
-    Ok((decoder.bytes, &rest[1..]))
 }

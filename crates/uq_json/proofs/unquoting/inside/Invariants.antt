@@ -3,9 +3,9 @@ use Rattle.uq_json.specs.Decoding.{decoded}
 use Rattle.uq_json.specs.Reading.{pieces_within, inside_at}
 use Rattle.uq_json.proofs.unquoting.inside.Given as goal
 
-abbrev pub decreases-loop-rest : goal.decreases-loop-rest
-decreases-loop-rest l = length l.rest
+abbrev pub decreases-pieces : goal.decreases-pieces
+decreases-pieces l = length l.rest
 
-abbrev pub invariant-loop-rest : goal.invariant-loop-rest
-invariant-loop-rest l =
+abbrev pub invariant-pieces : goal.invariant-pieces
+invariant-pieces l =
     (fuel : ℕ) × (length l.rest ≤ fuel) × (decoded l.decoder.bytes.items l.decoder.waiting (pieces_within fuel l.rest) ≡ inside_at l.text)
