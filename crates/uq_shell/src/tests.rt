@@ -1,4 +1,3 @@
-use crate::quoting::quote;
 use crate::{Ended, Status, run};
 use std::alloc::{AllocError, Global};
 use std::test::Fail;
@@ -208,15 +207,5 @@ fn other_files_are_no_database(rt: HostRuntime) -> Result<(), Fail> {
         assert_eq!(rt; out.written(), b"not a database\n".as_slice());
         assert_eq!(rt; end, ended(Status::NotDatabase, 0));
     }
-    Ok(())
-}
-
-#[test]
-fn each_control_byte_has_its_escape(rt: HostRuntime) -> Result<(), Fail> {
-    let text = quote(rt.alloc(), b"\0\x07\x08\t\n\x0b\x0c\r\x1f \x7f\xff")?;
-    assert_eq!(rt;
-        text.as_slice(),
-        b"\"\\u0000\\u0007\\b\\t\\n\\u000b\\f\\r\\u001f \x7f\xff\"".as_slice()
-    );
     Ok(())
 }
