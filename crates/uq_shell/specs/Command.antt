@@ -3,7 +3,7 @@ use Rattle.std.specs.Prelude.{ℕ, Bool, true, false, bytes_eq, ◌||◌, nat_lt
 use Rattle.std.specs.FinMap as map
 use Rattle.uq_shell.specs.Store.{Store, Session, with_present, written, room}
 use Rattle.uq_shell.specs.Line.{line_after}
-use Rattle.uq_shell.specs.Quote.{quoted}
+use Rattle.uq_json.specs.Quote.{quoted}
 
 -- what the words after the name of the database ask for
 pub data Request : Type 0 where

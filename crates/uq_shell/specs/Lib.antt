@@ -5,7 +5,6 @@ pub mod Headline
 pub mod Keeps
 pub mod Line
 pub mod Obeying
-pub mod Quote
 pub mod Reply
 pub mod Request
 pub mod Run

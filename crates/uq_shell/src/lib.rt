@@ -7,7 +7,6 @@ mod database;
 mod ended;
 mod fault;
 mod opening;
-mod quoting;
 mod reply;
 mod running;
 mod status;

@@ -11,7 +11,7 @@ ghost use Rattle.uq_shell.specs.Run.{run_of, is_usage, obeyed, last_commit};
 ghost use Rattle.uq_shell.specs.Followed.{EndsInLine, ending_of, line_behind};
 ghost use Rattle.uq_shell.specs.Headline.{HasCauses, is_answered, Meets, IsCommitted, IsComplete, IsCommitUnderWay};
 ghost use Rattle.uq_shell.specs.Line.{line_after};
-ghost use Rattle.uq_shell.specs.Quote.{quoted};
+ghost use Rattle.uq_json.specs.Quote.{quoted};
 ghost use Rattle.uq_shell.specs.Obeying.{Answers, IsLine, Obeys, Settles};
 ghost use Rattle.uq_shell.specs.Written.{Writes};
 
@@ -20,10 +20,10 @@ use crate::committing::commit;
 use crate::database::Database;
 use crate::fault::{FetchFault, OpenFault, StoreFault};
 use crate::opening::open;
-use crate::quoting::quote;
 use crate::reply::Reply;
 use crate::{Ended, Status};
-use std::alloc::{AllocError, Global};
+use std::alloc::Global;
+use uq_json::quote;
 use uq_outside::{Disk, Sink, Source};
 
 /// Obeys the words: the name of a database, and one command.
@@ -198,17 +198,19 @@ fn data_reply(alloc: Global, bytes: &[u8]) -> Result<Reply, FetchFault>
     ensures line { IfOk result (λ reply. (line : Vec ℕ Global) × (reply ≡ Reply.Data line) × (line.items ≡ line_after None (quoted bytes.now))) }
     ensures memory { IfErr result (λ fault. fault ≡ FetchFault.Memory) }
 {
-    match data_line(alloc, bytes) {
-        Ok(line) => Ok(Reply::Data(line)),
-        Err(_) => Err(FetchFault::Memory),
-    }
+    Ok(Reply::Data(data_line(alloc, bytes)?))
 }
 
 /// The line of the data: a JSON string.
-fn data_line(alloc: Global, bytes: &[u8]) -> Result<Vec<u8>, AllocError>
-    ensures { IfOk result (λ line. line.items ≡ line_after None (quoted bytes.now)) }
+fn data_line(alloc: Global, bytes: &[u8]) -> Result<Vec<u8>, FetchFault>
+    ensures line { IfOk result (λ line. line.items ≡ line_after None (quoted bytes.now)) }
+    ensures memory { IfErr result (λ fault. fault ≡ FetchFault.Memory) }
 {
-    let mut line = quote(alloc, bytes)?;
-    line.push(b'\n')?;
-    Ok(line)
+    let Ok(mut line) = quote(alloc, bytes) else {
+        return Err(FetchFault::Memory);
+    };
+    match line.push(b'\n') {
+        Ok(()) => Ok(line),
+        Err(_) => Err(FetchFault::Memory),
+    }
 }

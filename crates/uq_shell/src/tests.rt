@@ -1,6 +1,6 @@
-use crate::quoting::quote;
 use crate::{Ended, Status, run};
 use std::alloc::{AllocError, Global};
+use std::process::Abort;
 use std::test::Fail;
 use uq_outside::{FileNo, MemDisk, MemSink, SureSource};
 
@@ -16,6 +16,15 @@ fn obey(
         list.push(word.to_string(alloc)?)?;
     }
     Ok(run(alloc, list.as_slice(), disk, &mut SureSource::new(b""), out))
+}
+
+const STORE: &[&str] = &["t.db", "store", "a", "1"];
+
+/// A disk that holds `a`, as the first store leaves it.
+fn stored(alloc: Global) -> Result<MemDisk, Fail> {
+    let mut disk = MemDisk::new(alloc, b"", b"", &[])?;
+    obey(alloc, STORE, &mut disk, &mut MemSink::new(alloc, &[])?)?;
+    Ok(disk)
 }
 
 fn ended(status: Status, done: u128) -> Ended {
@@ -122,17 +131,10 @@ fn three_great_entries_fill_the_page(rt: HostRuntime) -> Result<(), Fail> {
 
 #[test]
 fn a_disk_that_fails_at_each_call_ends_the_run(rt: HostRuntime) -> Result<(), Fail> {
-    let mut whole = MemDisk::new(rt.alloc(), b"", b"", &[])?;
-    let mut out = MemSink::new(rt.alloc(), &[])?;
-    obey(
-        rt.alloc(),
-        &["t.db", "store", "a", "1"],
-        &mut whole,
-        &mut out,
-    )?;
+    let whole = stored(rt.alloc())?;
+    let full = whole.file(FileNo::Main);
     let store: &[&str] = &["t.db", "store", "a", "2"];
     let fetch: &[&str] = &["t.db", "fetch", "a"];
-    let full = whole.file(FileNo::Main);
     // The words, the main file, the calls before the reply, and all calls.
     let runs: [(&[&str], &[u8], u64, u64); 3] = [
         (store, b"", 3, 6),
@@ -158,36 +160,119 @@ fn a_disk_that_fails_at_each_call_ends_the_run(rt: HostRuntime) -> Result<(), Fa
     Ok(())
 }
 
+/// A run over a disk and a sink that fail at these calls, and what is left of it.
+#[derive(Drop)]
+struct CutRun<'a> {
+    words: &'a [&'a str],
+    main: &'a [u8],
+    disk_fails: &'a [u64],
+    sink_fails: &'a [(u64, usize)],
+    bytes: &'a [u8],
+    end: Ended,
+    left: &'a [u8],
+}
+
+fn check_cut(rt: &impl Abort, alloc: Global, cut: &CutRun<'_>) -> Result<(), Fail> {
+    let mut disk = MemDisk::new(alloc, cut.main, b"", cut.disk_fails)?;
+    let mut out = MemSink::new(alloc, cut.sink_fails)?;
+    let end = obey(alloc, cut.words, &mut disk, &mut out)?;
+    let (words, puts) = (cut.words, cut.sink_fails);
+    assert_eq!(rt; out.written(), cut.bytes, "{words:?} {puts:?}");
+    assert_eq!(rt; end, cut.end, "{words:?} {puts:?}");
+    assert_eq!(rt; disk.file(FileNo::Main), cut.left, "{words:?} {puts:?}");
+    assert_eq!(rt; disk.file(FileNo::Journal), b"".as_slice());
+    Ok(())
+}
+
 #[test]
-fn a_sink_that_fails_has_a_prefix(rt: HostRuntime) -> Result<(), Fail> {
-    let runs: [(&[&str], usize, &[u8], Ended); 4] = [
-        (
-            &["t.db", "store", "a", "1"],
-            0,
-            b"",
-            ended(Status::Stream, 0),
-        ),
-        (
-            &["t.db", "store", "a", "1"],
-            1,
-            b"o",
-            ended(Status::Stream, 0),
-        ),
-        (
-            &["t.db", "fetch", "a"],
-            4,
-            b"not ",
-            ended(Status::Stream, 0),
-        ),
-        (&["t.db"], 5, b"usage", ended(Status::Usage, 0)),
+fn a_reply_that_is_cut_leaves_the_disk_as_it_was(rt: HostRuntime) -> Result<(), Fail> {
+    let whole = stored(rt.alloc())?;
+    let full = whole.file(FileNo::Main);
+    // The words, the main file, the bytes that the first put takes before it fails, and what is written.
+    let runs: [(&[&str], &[u8], usize, &[u8]); 11] = [
+        (STORE, b"", 0, b""),
+        (STORE, b"", 1, b"o"),
+        (STORE, b"", 3, b"ok\n"),
+        (&["t.db", "store", "a", "2"], full, 0, b""),
+        (&["t.db", "store", "a", "2"], full, 1, b"o"),
+        (&["t.db", "fetch", "a"], full, 0, b""),
+        (&["t.db", "fetch", "a"], full, 1, b"\""),
+        (&["t.db", "fetch", "a"], full, 4, b"\"1\"\n"),
+        (&["t.db", "fetch", "b"], full, 4, b"not "),
+        (&["t.db", "store", ""], full, 1, b"b"),
+        (&["t.db", "drop"], b"", 0, b""),
     ];
-    for (words, kept, bytes, want) in runs {
-        let mut disk = MemDisk::new(rt.alloc(), b"", b"", &[])?;
-        let mut out = MemSink::new(rt.alloc(), &[(1, kept)])?;
-        let end = obey(rt.alloc(), words, &mut disk, &mut out)?;
-        assert_eq!(rt; out.written(), bytes, "{words:?}");
-        assert_eq!(rt; end, want, "{words:?}");
-        assert_eq!(rt; disk.file(FileNo::Main), b"".as_slice());
+    for (words, main, kept, bytes) in runs {
+        let cut = CutRun {
+            words,
+            main,
+            disk_fails: &[],
+            sink_fails: &[(1, kept)],
+            bytes,
+            end: ended(Status::Stream, 0),
+            left: main,
+        };
+        check_cut(&rt, rt.alloc(), &cut)?;
+    }
+    Ok(())
+}
+
+#[test]
+fn a_commit_that_fails_keeps_its_status_where_its_line_is_cut(rt: HostRuntime) -> Result<(), Fail> {
+    let whole = stored(rt.alloc())?;
+    let full = whole.file(FileNo::Main);
+    let first = full.len() / 2;
+    // The disk's call that fails in the run of `store` over empty files, what the main file holds behind it, the bytes
+    // of the ending line that are put before the sink fails, and what is written.
+    let runs: [(u64, &[u8], usize, &[u8]); 6] = [
+        (4, b"", 0, b"ok\n"),
+        (4, b"", 1, b"ok\nd"),
+        (5, &full[..first], 0, b"ok\n"),
+        (5, &full[..first], 1, b"ok\nd"),
+        (6, full, 0, b"ok\n"),
+        (6, full, 1, b"ok\nd"),
+    ];
+    for (call, left, kept, bytes) in runs {
+        let cut = CutRun {
+            words: STORE,
+            main: b"",
+            disk_fails: &[call],
+            sink_fails: &[(2, kept)],
+            bytes,
+            end: ended(Status::Disk, 1),
+            left,
+        };
+        check_cut(&rt, rt.alloc(), &cut)?;
+    }
+    Ok(())
+}
+
+#[test]
+fn an_ending_line_that_is_cut_keeps_its_status(rt: HostRuntime) -> Result<(), Fail> {
+    let whole = stored(rt.alloc())?;
+    let full = whole.file(FileNo::Main);
+    // The words, the main file, the disk's call that fails, the bytes that are put, and the status.
+    let zeros = [0; 4096];
+    let runs: [(&[&str], &[u8], u64, &[u8], Status); 7] = [
+        (&["t.db"], b"", 0, b"", Status::Usage),
+        (&["t.db"], b"", 0, b"usage", Status::Usage),
+        (STORE, b"", 1, b"", Status::Disk),
+        (STORE, b"", 1, b"d", Status::Disk),
+        (&["t.db", "fetch", "a"], full, 5, b"disk", Status::Disk),
+        (STORE, &zeros, 0, b"", Status::NotDatabase),
+        (STORE, &zeros, 0, b"n", Status::NotDatabase),
+    ];
+    for (words, main, call, bytes, status) in runs {
+        let cut = CutRun {
+            words,
+            main,
+            disk_fails: &[call],
+            sink_fails: &[(1, bytes.len())],
+            bytes,
+            end: ended(status, 0),
+            left: main,
+        };
+        check_cut(&rt, rt.alloc(), &cut)?;
     }
     Ok(())
 }
@@ -208,15 +293,5 @@ fn other_files_are_no_database(rt: HostRuntime) -> Result<(), Fail> {
         assert_eq!(rt; out.written(), b"not a database\n".as_slice());
         assert_eq!(rt; end, ended(Status::NotDatabase, 0));
     }
-    Ok(())
-}
-
-#[test]
-fn each_control_byte_has_its_escape(rt: HostRuntime) -> Result<(), Fail> {
-    let text = quote(rt.alloc(), b"\0\x07\x08\t\n\x0b\x0c\r\x1f \x7f\xff")?;
-    assert_eq!(rt;
-        text.as_slice(),
-        b"\"\\u0000\\u0007\\b\\t\\n\\u000b\\f\\r\\u001f \x7f\xff\"".as_slice()
-    );
     Ok(())
 }

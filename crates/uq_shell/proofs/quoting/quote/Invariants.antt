@@ -1,7 +1,0 @@
-use Rattle.std.proofs.Common.{◌≡◌, ◌∷◌, take}
-use Rattle.std.specs.List.{flat_map}
-use Rattle.uq_shell.specs.Quote.{escaped}
-use Rattle.uq_shell.proofs.quoting.quote.Given as goal
-
-abbrev pub invariant-loop-byte : goal.invariant-loop-byte
-invariant-loop-byte l = l.text.items ≡ 0x22 ∷ flat_map escaped (take l.byte-index l.bytes)
