@@ -1,14 +1,14 @@
 // The whole numbers of JSON.
 
-ghost use Rattle.std.specs.Prelude.{◌≡◌, ◌-◌, ◌^◌, min, true, option_map, if◌then◌else◌};
+ghost use Rattle.std.specs.Prelude.{◌≡◌, ◌-◌, ◌^◌, min, true, option_map};
 ghost use Rattle.std.specs.Char.{is_ascii_digit};
 ghost use Rattle.std.specs.List.{list_all};
-ghost use Rattle.uq_value.specs.Number.{positive as spec_positive, negative as spec_negative};
 ghost use Rattle.uq_json.specs.Grammar.{has_no_leading_zero as spec_has_no_leading_zero};
 ghost use Rattle.uq_json.specs.Reading.{Gives, number_at, natural as spec_natural};
 
 use crate::error::JsonFault;
 use crate::scanning::{next_is, split_digits};
+use uq_value::with_sign;
 
 /// The number at the front of the text, and the text behind it.
 pub(crate) fn number(text: &[u8]) -> Result<(i64, &[u8]), JsonFault>
@@ -20,16 +20,6 @@ pub(crate) fn number(text: &[u8]) -> Result<(i64, &[u8]), JsonFault>
     match with_sign(is_negative, natural(digits)) {
         Some(z) => Ok((z, rest)),
         None => Err(JsonFault::NotJson),
-    }
-}
-
-fn with_sign(is_negative: bool, n: Option<u64>) -> Option<i64>
-    ensures { result ≡ (if is_negative then spec_negative n else spec_positive n) }
-{
-    if is_negative {
-        negative(n)
-    } else {
-        positive(n)
     }
 }
 
@@ -56,27 +46,5 @@ fn has_no_leading_zero(digits: &[u8]) -> bool
         [] => false,
         [_] => true,
         [first, ..] => *first != b'0',
-    }
-}
-
-/// The number as it is, where it is below 2^63.
-fn positive(n: Option<u64>) -> Option<i64>
-    ensures { result ≡ spec_positive n }
-{
-    let n = n?;
-    if n < 1 << 63 { Some(n as i64) } else { None }
-}
-
-/// The opposite of the number, where it is at most 2^63.
-fn negative(n: Option<u64>) -> Option<i64>
-    ensures { result ≡ spec_negative n }
-{
-    let n = n?;
-    if n == 0 {
-        Some(0)
-    } else if n <= 1 << 63 {
-        Some(-1 - (n - 1) as i64)
-    } else {
-        None
     }
 }

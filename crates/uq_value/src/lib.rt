@@ -24,7 +24,7 @@ pub use copying::copy;
 pub use error::{NoMemory, ValueFault};
 pub use list::List;
 pub use measuring::{depth, size, within_limits};
-pub use numbers::number;
+pub use numbers::{number, with_sign};
 pub use object::Object;
 pub use reading::{get_index, get_member};
 pub use step::Step;

@@ -1,6 +1,6 @@
 // The numbers of values and of texts.
 
-ghost use Rattle.std.specs.Prelude.{◌≡◌, ◌-◌, ◌^◌, ◌≤◌, min, option_map};
+ghost use Rattle.std.specs.Prelude.{◌≡◌, ◌-◌, ◌^◌, ◌≤◌, min, option_map, if◌then◌else◌};
 ghost use Rattle.uq_value.specs.Number.{number as spec_number, text_number as spec_text_number, unsigned as spec_unsigned, positive as spec_positive, negative as spec_negative};
 
 use crate::value::Value;
@@ -26,9 +26,9 @@ pub(crate) fn text_number(bytes: &[u8]) -> Option<i64>
         None => None,
         Some((c, digits)) => {
             if *c == b'-' {
-                negative(unsigned(digits))
+                with_sign(true, unsigned(digits))
             } else {
-                positive(unsigned(bytes))
+                with_sign(false, unsigned(bytes))
             }
         }
     }
@@ -49,6 +49,17 @@ fn unsigned(digits: &[u8]) -> Option<u64>
         n = n.saturating_mul(10).saturating_add(u64::from(*c - b'0'));
     }
     Some(n)
+}
+
+/// The whole number of this sign and size: None exactly where there is no size, or the number does not fit in 64 bits.
+pub fn with_sign(is_negative: bool, size: Option<u64>) -> Option<i64>
+    ensures { result ≡ (if is_negative then spec_negative size else spec_positive size) }
+{
+    if is_negative {
+        negative(size)
+    } else {
+        positive(size)
+    }
 }
 
 /// The number as it is, where it is below 2^63.
