@@ -1,9 +1,8 @@
 -- What the reader finds at the front of some bytes, and why nothing else is there.
-use Rattle.std.proofs.Common.{◌≡◌, ◌≢◌, ℕ, zero, suc, ◌<◌, ◌≤◌, ◌+◌, max, Bool, true, false, not, cond, ltb, ◌||◌, ◌⊎◌, inl, inr, ℤ, List, [], ◌∷◌, ◌++◌, length, Option, Some, None, Result, Ok, Err, refl, sym, ap, subst, ◌∙◌, append_assoc, append-nil, length-append, arith}
-use Rattle.std.proofs.lemmas.Bool.{ltb-true, lt-ltb, ltb-false}
+use Rattle.std.proofs.Common.{◌≡◌, ℕ, suc, ◌<◌, ◌≤◌, ◌+◌, true, false, ℤ, [], ◌∷◌, ◌++◌, length, None, Result, refl, sym, ap, subst, ◌∙◌, append_assoc, append-nil, length-append, arith}
 use Rattle.uq_value.specs.Data.{Bytes, Data, Datas, Pairs, Items, no_items, item, Members, no_members, member, null, boolean, whole, text, sequence, mapping, items_of, list_of, members_of, pairs_of, list, object}
-use Rattle.uq_value.specs.Size.{data_size, items_size, members_size, most_size, leb_size}
-use Rattle.uq_value.specs.Depth.{data_depth, items_depth, members_depth, most_depth}
+use Rattle.uq_value.specs.Size.{data_size, items_size, most_size}
+use Rattle.uq_value.specs.Depth.{data_depth, items_depth}
 use Rattle.uq_codec.specs.Varint.{IsVarint}
 use Rattle.uq_codec.specs.Stored.{IsWhole, IsName, Spells, SpellsItems, SpellsMembers}
 use Rattle.std.specs.Borrow.{Bor}
@@ -12,7 +11,7 @@ use Rattle.uq_codec.specs.Kinds.{byte_of, ReadsKind}
 use Rattle.uq_codec.specs.Reading.{Front, NoFront, Fits, ReadsValue}
 use Rattle.uq_codec.specs.declared.kind.Kind.{Kind}
 use Rattle.uq_codec.specs.declared.error.CodecFault.{CodecFault}
-use Rattle.uq_codec.proofs.Determined.{Same, kind, Begins, begins, varint_same, name_same, whole_long, spelling_same, items_same, members_same}
+use Rattle.uq_codec.proofs.Determined.{kind, Begins, begins, varint_same, whole_long, spelling_same}
 use Rattle.uq_codec.proofs.Forms.{items_count, members_count, leb_size_grows}
 use Rattle.uq_codec.proofs.Values.{list_and_back}
 

@@ -1,6 +1,6 @@
 -- The one stored form of a value, and its length.
-use Rattle.std.proofs.Common.{◌≡◌, ℕ, zero, suc, ◌<◌, ◌≤◌, ◌+◌, ◌*◌, ◌/◌, ◌-◌, ◌^◌, Bool, true, false, cond, ltb, ℤ, pos, negsuc, List, [], ◌∷◌, ◌++◌, length, length-append, refl, sym, ap, subst, ◌∙◌, add-one, arith}
-use Rattle.std.proofs.lemmas.Bool.{ltb-true, lt-ltb, ltb-false}
+use Rattle.std.proofs.Common.{◌≡◌, ℕ, zero, suc, ◌<◌, ◌≤◌, ◌+◌, ◌/◌, ◌^◌, Bool, true, false, cond, ltb, ℤ, pos, negsuc, [], ◌∷◌, ◌++◌, length, length-append, refl, sym, ap, subst, ◌∙◌, arith}
+use Rattle.std.proofs.lemmas.Bool.{ltb-true, ltb-false}
 use Rattle.std.proofs.Math.Nat.{pow-suc}
 use Rattle.uq_value.specs.Data.{Bytes, Data, null, boolean, whole, text, sequence, mapping, Items, no_items, item, Members, no_members, member, list_of, pairs_of}
 use Rattle.uq_value.specs.Size.{leb_within, leb_size, name_size, data_size, items_size, members_size, most_size}

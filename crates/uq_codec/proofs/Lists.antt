@@ -1,15 +1,14 @@
 -- Reading texts and lists.
-use Rattle.std.proofs.Common.{◌≡◌, ℕ, zero, suc, ◌<◌, ◌≤◌, ◌+◌, ◌-◌, Bool, true, false, cond, ltb, List, [], ◌∷◌, ◌++◌, length, Option, Some, None, Result, Ok, Err, refl, sym, ap, subst, ◌∙◌, arith}
+use Rattle.std.proofs.Common.{◌≡◌, ℕ, suc, ◌<◌, ◌≤◌, Bool, true, false, cond, ltb, [], ◌∷◌, ◌++◌, length, Ok, Err, refl, sym, ap, subst, ◌∙◌, arith}
 use Rattle.std.proofs.lemmas.Bool.{ltb-true, ltb-false}
-use Rattle.std.specs.Borrow.{Bor}
-use Rattle.uq_value.specs.Data.{Bytes, Data, Datas, Pairs, Items, Members, text, sequence, mapping, items_of, list_of, members_of, pairs_of, list, object}
+use Rattle.uq_value.specs.Data.{Bytes, Data, Datas, text, sequence, items_of, list_of, list}
 use Rattle.uq_value.specs.Size.{data_size, most_size, text_size}
 use Rattle.uq_value.specs.Depth.{data_depth, most_depth}
 use Rattle.uq_value.specs.Plain.{plain, size, depth}
 use Rattle.uq_value.specs.Put.{Put, limited}
 use Rattle.uq_value.specs.Faults.{Refuses, TextFault}
 use Rattle.uq_value.specs.declared.value.Value.{Value}
-use Rattle.uq_value.specs.declared.value.Value.TheVariants.{Text as Text', List as List', Object as Object'}
+use Rattle.uq_value.specs.declared.value.Value.TheVariants.{List as List'}
 use Rattle.uq_value.specs.declared.error.ValueFault.{ValueFault}
 use Rattle.uq_value.specs.declared.error.ValueFault.TheVariants as value
 use Rattle.uq_codec.specs.Varint.{IsVarint}
@@ -19,7 +18,7 @@ use Rattle.uq_codec.specs.declared.error.CodecFault.{CodecFault}
 use Rattle.uq_codec.specs.declared.error.CodecFault.TheVariants as fault
 use Rattle.uq_codec.proofs.Determined.{name_same}
 use Rattle.uq_codec.proofs.Values.{list_and_back}
-use Rattle.uq_codec.proofs.Decoded.{two_fronts, behind_byte, TextFront, as_text, ListFront, as_list, CountedFront, behind_count, list_bytes, ItemsSoFar, no_item, too_many, items_few}
+use Rattle.uq_codec.proofs.Decoded.{two_fronts, behind_byte, as_text, as_list, behind_count, list_bytes, ItemsSoFar, no_item, too_many, items_few}
 
 -- ---- texts
 

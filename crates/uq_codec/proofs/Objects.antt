@@ -1,28 +1,25 @@
 -- Reading objects.
 use Rattle.std.proofs.Common.{◌≡◌, ℕ, zero, suc, ◌<◌, ◌≤◌, ◌+◌, Bool, true, false, not, ◌||◌, List, [], ◌∷◌, ◌++◌, length, Option, Some, None, Result, Ok, Err, refl, sym, ap, subst, ◌∙◌, append_assoc, append-nil, length-append, arith}
-use Rattle.std.specs.Borrow.{Bor}
-use Rattle.std.specs.Option.{option_map}
-use Rattle.std.specs.Result.{MatchResult}
 use Rattle.std.specs.Str.{bytes_eq}
 use Rattle.std.proofs.lemmas.Slice.Eq.{bytes_eq-Decides}
-use Rattle.uq_value.specs.Data.{Bytes, Data, Datas, Pairs, Items, Members, no_members, member, mapping, members_of, pairs_of, object, is_among, names_of, IsDistinct}
-use Rattle.uq_value.specs.Size.{data_size, members_size, name_size, most_size}
+use Rattle.uq_value.specs.Data.{Bytes, Data, Pairs, Members, no_members, member, mapping, members_of, pairs_of, object, is_among, names_of, IsDistinct}
+use Rattle.uq_value.specs.Size.{data_size, members_size, most_size}
 use Rattle.uq_value.specs.Depth.{data_depth, members_depth, most_depth}
 use Rattle.uq_value.specs.Plain.{plain}
 use Rattle.uq_value.specs.Put.{Put, limited}
-use Rattle.uq_value.specs.Slots.{Slots, Stands, KeptAs, Sets, Finishes}
+use Rattle.uq_value.specs.Slots.{Slots, Stands, Sets}
 use Rattle.uq_value.specs.Faults.{Refuses}
 use Rattle.uq_value.specs.declared.value.Value.{Value}
 use Rattle.uq_value.specs.declared.value.Value.TheVariants.{Object as Object'}
 use Rattle.uq_value.specs.declared.error.ValueFault.{ValueFault}
 use Rattle.uq_codec.specs.Varint.{IsVarint}
 use Rattle.uq_codec.specs.Stored.{IsName, Spells, SpellsMembers}
-use Rattle.uq_codec.specs.Reading.{Front, NoFront, Fits, Passes, Reads, ReadsValue, IsMember, ReadsMember, Holds, ReadsMembers}
+use Rattle.uq_codec.specs.Reading.{Front, NoFront, Fits, Passes, ReadsValue, IsMember, ReadsMember, Holds, ReadsMembers}
 use Rattle.uq_codec.specs.declared.error.CodecFault.{CodecFault}
 use Rattle.uq_codec.specs.declared.error.CodecFault.TheVariants as fault
-use Rattle.uq_codec.proofs.Determined.{name_same, spelling_same, members_same, in_a_row, both}
+use Rattle.uq_codec.proofs.Determined.{name_same, spelling_same, members_same, in_a_row}
 use Rattle.uq_codec.proofs.Values.{pairs_and_back}
-use Rattle.uq_codec.proofs.Decoded.{two_fronts, ObjectFront, as_object, behind_count, members_few}
+use Rattle.uq_codec.proofs.Decoded.{two_fronts, as_object, behind_count, members_few}
 use Rattle.uq_codec.proofs.Lists.{fits_refused, passes_memory}
 
 -- ---- a member

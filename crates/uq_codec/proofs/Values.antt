@@ -1,6 +1,6 @@
 -- Values and their plain data.
-use Rattle.std.proofs.Common.{◌≡◌, List, [], ◌∷◌, refl, sym, ap, ◌∙◌}
-use Rattle.uq_value.specs.Data.{Data, Datas, Pairs, Items, no_items, item, Members, no_members, member, null, boolean, whole, text, sequence, mapping, items_of, list_of, members_of, pairs_of}
+use Rattle.std.proofs.Common.{◌≡◌, [], ◌∷◌, refl, sym, ap, ◌∙◌}
+use Rattle.uq_value.specs.Data.{Datas, Pairs, items_of, list_of, members_of, pairs_of}
 use Rattle.uq_value.specs.Plain.{plain, value_of}
 use Rattle.uq_value.specs.declared.value.Value.{Value}
 use Rattle.uq_value.specs.declared.value.Value.TheVariants.{Null, Bool, Int, Text, List as List', Object as Object'}

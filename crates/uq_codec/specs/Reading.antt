@@ -1,6 +1,6 @@
 -- What the private functions of the reader answer: what they read from the front of the bytes, and the bytes behind
 -- it. Nothing is read only where no front of the bytes spells what is asked for within the limits.
-use Rattle.std.specs.Prelude.{◌≡◌, ℕ, suc, ◌≤◌, ◌<◌, ◌∷◌, [], ◌++◌, length, Option, Some, None, Result, Ok, Err}
+use Rattle.std.specs.Prelude.{◌≡◌, ℕ, ◌≤◌, ◌<◌, ◌∷◌, [], ◌++◌, length, Option, Some, None, Result, Ok, Err}
 use Rattle.std.specs.Borrow.{Bor}
 use Rattle.uq_value.specs.Data.{Bytes, Data, Datas, Pairs, Items, Members, list, object, sequence, mapping, items_of, members_of, list_of, pairs_of, names_of, IsDistinct}
 use Rattle.uq_value.specs.Size.{data_size, most_size}

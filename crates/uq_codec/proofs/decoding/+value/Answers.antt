@@ -1,7 +1,6 @@
-use Rattle.std.proofs.Common.{◌≡◌, ℕ, suc, ◌<◌, ◌≤◌, ◌+◌, ◌-◌, [], ◌∷◌, ◌++◌, length, refl, sym, ap, subst, ◌∙◌, add-one, arith}
+use Rattle.std.proofs.Common.{ℕ, suc, ◌+◌, ◌-◌, [], ◌∷◌, ◌++◌, sym, subst, add-one, arith}
 use Rattle.std.proofs.lemmas.Result.{err_from_is_err_and}
 use Rattle.uq_value.specs.Data.{Datas}
-use Rattle.uq_value.specs.Slots.{Slots}
 use Rattle.uq_value.specs.Plain.{plain}
 use Rattle.uq_codec.specs.declared.kind.Kind.TheVariants as kind
 use Rattle.uq_codec.proofs.Decoded.{ItemsSoFar, no_items_yet, one_item_more, at_kind, no_kind_next}

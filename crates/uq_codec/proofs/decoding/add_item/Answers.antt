@@ -1,4 +1,3 @@
-use Rattle.std.proofs.Common.{◌≡◌, ℕ}
 use Rattle.uq_codec.proofs.Lists.{item_refused}
 use Rattle.uq_codec.proofs.decoding.add_item.Goals as goal
 

@@ -1,4 +1,3 @@
-use Rattle.std.proofs.Common.{◌≡◌, ℕ}
 use Rattle.std.proofs.lemmas.Result.{err_from_is_err_and}
 use Rattle.uq_codec.proofs.Verdicts.{decoded, not_decoded}
 use Rattle.uq_codec.proofs.decoding.decode.Goals as goal

@@ -1,4 +1,4 @@
-use Rattle.std.proofs.Common.{◌≡◌, ℕ, w64, length, sym, subst}
+use Rattle.std.proofs.Common.{w64, sym, subst}
 use Rattle.std.proofs.lemmas.Int.{to_z-of_z}
 use Rattle.uq_codec.specs.Stored.{IsWhole}
 use Rattle.uq_codec.proofs.Numbers.{whole_read}

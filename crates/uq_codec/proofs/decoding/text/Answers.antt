@@ -1,4 +1,3 @@
-use Rattle.std.proofs.Common.{◌≡◌, ℕ}
 use Rattle.uq_codec.proofs.Lists.{no_text, text_found, text_refused}
 use Rattle.uq_codec.proofs.decoding.text.Goals as goal
 

@@ -1,5 +1,3 @@
-use Rattle.std.proofs.Common.{◌≡◌, ℕ, List, ◌++◌, refl, sym, ap, ◌∙◌}
-use Rattle.uq_value.specs.Data.{Bytes}
 use Rattle.uq_value.specs.Plain.{plain}
 use Rattle.uq_codec.proofs.Determined.{spelling_same}
 use Rattle.uq_codec.proofs.Values.{plain_one}
