@@ -1,6 +1,7 @@
 -- What the private functions of the reader answer: what they read from the front of the bytes, and the bytes behind
 -- it. Nothing is read only where no front of the bytes spells what is asked for within the limits.
-use Rattle.std.specs.Prelude.{◌≡◌, ℕ, ◌≤◌, ◌<◌, ◌∷◌, [], ◌++◌, length, Option, Some, None, Result, Ok, Err}
+use Rattle.std.specs.Prelude.{◌≡◌, ℕ, ◌≤◌, ◌<◌, ◌∷◌, [], ◌++◌, length, Option, Some, None, Result, Ok, Err, Vec}
+use Rattle.std.specs.declared.alloc.Global.{Global}
 use Rattle.std.specs.Borrow.{Bor}
 use Rattle.uq_value.specs.Data.{Bytes, Data, Datas, Pairs, Items, Members, list, object, sequence, mapping, items_of, members_of, list_of, pairs_of, names_of, IsDistinct}
 use Rattle.uq_value.specs.Size.{data_size, most_size}
@@ -78,9 +79,9 @@ pub record IsMember (word name : Bytes) (d : Data) : Type 0 where
   pub is_name : IsName label name
   pub is_value : Spells front d
 
-abbrev pub ReadsMember : ℕ → Bytes → Result (Bor Bytes × Value × Bor Bytes) CodecFault → Type 0
+abbrev pub ReadsMember : ℕ → Bytes → Result (Vec ℕ Global × Value × Bor Bytes) CodecFault → Type 0
 ReadsMember room bytes = Reads
-    (λ x. Front (λ word. IsMember word x.0.now (plain x.1)) bytes x.2.now × (data_depth (plain x.1) ≤ room))
+    (λ x. Front (λ word. IsMember word x.0.items (plain x.1)) bytes x.2.now × (data_depth (plain x.1) ≤ room))
     ((name : Bytes) (d : Data) → length name ≤ most_size → Fits room d → NoFront (λ word. IsMember word name d) bytes)
 
 -- the builder holds these members

@@ -163,7 +163,7 @@ fn members(
     let mut rest = bytes;
     for _ in 0..count {
         let (name, value, behind) = member(alloc, room, rest)?;
-        let is_new = found.set(alloc, name, Some(value))?;
+        let is_new = found.set(name, Some(value))?;
         if !is_new {
             return Err(CodecFault::NotCanonical);
         }
@@ -174,13 +174,14 @@ fn members(
 
 /// A name and a value of at most this depth.
 #[cycle(value)]
-fn member(alloc: Global, room: u32, bytes: &[u8]) -> Result<(&[u8], Value, &[u8]), CodecFault>
+fn member(alloc: Global, room: u32, bytes: &[u8]) -> Result<(Vec<u8>, Value, &[u8]), CodecFault>
     requires { suc room ≤ most_depth }
     ensures { ReadsMember room bytes.now result }
 {
     let Some((name, rest)) = read_name(bytes) else {
         return Err(CodecFault::NotCanonical);
     };
+    let name = Vec::from_slice(alloc, name)?;
     let (value, rest) = value(alloc, room, rest)?;
     Ok((name, value, rest))
 }

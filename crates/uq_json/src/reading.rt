@@ -177,7 +177,7 @@ fn members(alloc: Global, room: u32, text: &[u8]) -> Result<(ObjectBuilder, &[u8
     let mut rest = text;
     'members: loop {
         let (name, value, after) = member(alloc, room, rest)?;
-        found.set(alloc, name.as_slice(), value)?;
+        found.set(name, value)?;
         let (comma, behind) = separator(b'}', after)?;
         if !comma {
             return Ok((found, behind));

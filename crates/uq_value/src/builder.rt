@@ -48,20 +48,12 @@ impl ObjectBuilder {
         }
     }
 
-    /// Sets the member of this name: one that is there keeps its place, and a new one comes last. The answer is whether
-    /// it is new. A value is None where it is too large to be one.
-    pub fn set(
-        &mut self,
-        alloc: Global,
-        name: &[u8],
-        value: Option<Value>,
-    ) -> Result<bool, NoMemory>
-        ensures ok { IfOk result (Sets self.old self.new name.now (option_map plain value)) }
+    /// Sets the member of this name, whose bytes are the builder's from now on: one that is there keeps its place, and a
+    /// new one comes last. The answer is whether it is new. A value is None where it is too large to be one.
+    pub fn set(&mut self, name: Vec<u8>, value: Option<Value>) -> Result<bool, NoMemory>
+        ensures ok { IfOk result (Sets self.old self.new name.items (option_map plain value)) }
         ensures unchanged { OnErr result (self.new ≡ self.old) }
     {
-        let Ok(name) = Vec::from_slice(alloc, name) else {
-            return Err(NoMemory);
-        };
         match self.members.insert(name, value) {
             Ok(before) => Ok(before.is_none()),
             Err(_) => Err(NoMemory),

@@ -307,7 +307,8 @@ fn set(
     value: Option<Value>,
     is_new: bool,
 ) {
-    assert_eq!(rt; builder.set(alloc, name, value), Ok(is_new));
+    let name = Vec::from_slice(alloc, name).expect(rt, "a name");
+    assert_eq!(rt; builder.set(name, value), Ok(is_new));
 }
 
 #[test]

@@ -1,6 +1,8 @@
 use Rattle.std.proofs.Common.{ℕ, suc, ◌+◌, ◌-◌, [], ◌∷◌, ◌++◌, sym, subst, add-one, arith}
 use Rattle.std.proofs.lemmas.Result.{err_from_is_err_and}
-use Rattle.uq_value.specs.Data.{Datas}
+use Rattle.uq_value.specs.Data.{Bytes, Datas}
+use Rattle.uq_codec.specs.Stored.{IsName}
+use Rattle.uq_codec.specs.Reading.{Front}
 use Rattle.uq_value.specs.Plain.{plain}
 use Rattle.uq_codec.specs.declared.kind.Kind.TheVariants as kind
 use Rattle.uq_codec.proofs.Decoded.{ItemsSoFar, no_items_yet, one_item_more, at_kind, no_kind_next}
@@ -50,11 +52,13 @@ member-returns-in_default t c = no_name c.args.room c.args.bytes.now c.in_defaul
 
 pub member-returns-in_err-value : goal.member-returns-in_err-value
 member-returns-in_err-value t c =
-    let p = err_from_is_err_and c.from_residual.result c.from_residual.ensures.1 in
+    let p = err_from_is_err_and c.from_residual-in_err-value.result c.from_residual-in_err-value.ensures.1 in
     rw (p.1, p.2) (member_fails c.args.room c.args.bytes.now c.in-Some.name.now c.in-Some.rest.now c.in_err-value.field-0.0 c.in-Some.ensures.0 c.in_err-value.ensures)
 
 pub member-returns : goal.member-returns
-member-returns t c = member_found c.args.room c.args.bytes.now c.in-Some.name.now c.in-Some.rest.now c.in_ok-value.rest.now c.in_ok-value.value c.in-Some.ensures.0 c.in_ok-value.ensures
+member-returns t c =
+    member_found c.args.room c.args.bytes.now c.in_ok-name.name.items c.in-Some.rest.now c.in_ok-value.rest.now c.in_ok-value.value
+    (subst (λ (n : Bytes). Front (λ word. IsName word n) c.args.bytes.now c.in-Some.rest.now) (sym c.in_ok-name.ensures.items) c.in-Some.ensures.0) c.in_ok-value.ensures
 
 pub members-loop-init : goal.members-loop-init
 members-loop-init t c = no_members_yet c.args.room c.new-found.result c.args.bytes.now c.new-found.ensures
@@ -66,13 +70,13 @@ members-returns-in_err-name t c =
 
 pub members-returns-then-not-is_new : goal.members-returns-then-not-is_new
 members-returns-then-not-is_new t c =
-    repeated c.args.room c.loop.counter c.args.count c.loop.found c.set.new.self c.in_ok-name.name.now c.in_ok-name.value c.args.bytes.now c.loop.rest.now c.in_ok-name.behind.now c.in_ok-is_new.is_new
+    repeated c.args.room c.loop.counter c.args.count c.loop.found c.set.new.self c.in_ok-name.name.items c.in_ok-name.value c.args.bytes.now c.loop.rest.now c.in_ok-name.behind.now c.in_ok-is_new.is_new
     c.loop.invariant (omega (arith, c.loop-test.true)) c.in_ok-name.ensures.0 c.in_ok-is_new.ensures.ok c.if-not-is_new.true
 
 pub members-loop-preserved : goal.members-loop-preserved
 members-loop-preserved t c =
     subst (λ (n : ℕ). MembersSoFar (suc c.args.room) n c.set.new.self c.args.bytes.now c.in_ok-name.behind.now) (sym (add-one c.loop.counter))
-    (one_member_more c.args.room c.loop.counter c.loop.found c.set.new.self c.in_ok-name.name.now c.in_ok-name.value c.args.bytes.now c.loop.rest.now c.in_ok-name.behind.now c.in_ok-is_new.is_new
+    (one_member_more c.args.room c.loop.counter c.loop.found c.set.new.self c.in_ok-name.name.items c.in_ok-name.value c.args.bytes.now c.loop.rest.now c.in_ok-name.behind.now c.in_ok-is_new.is_new
     c.loop.invariant c.in_ok-name.ensures.0 c.in_ok-name.ensures.1 c.in_ok-is_new.ensures.ok c.if-not-is_new.false)
 
 pub members-returns : goal.members-returns

@@ -73,8 +73,8 @@ pub members-returns-then-not-comma : goal.members-returns-then-not-comma
 members-returns-then-not-comma t c =
     ends (member_at (element_at c.args.room)) 0x7d (SlotsStandFor c.members.found) c.members.rest.now (listed_within (member_at (element_at c.args.room)) 0x7d (suc (length c.args.text.now)) c.args.text.now)
     c.in_ok-name.ensures.0 c.in_ok-name.after.now c.in_ok-name.ensures.1 c.in_ok-comma.behind.now (c.in_ok-comma.ensures ∙ ap (λ (b : Bool). let r : Read Bool = Ok (b, c.in_ok-comma.behind.now) in r) c.if-not-comma.true)
-    (SlotsStandFor c.set.new.self) (slot_set c.args.room c.members.rest.now c.in_ok-name.after.now c.in_ok-name.ensures.0 c.members.found c.set.new.self c.as_slice.result.now c.in_ok-name.value c.in_ok-set.field-0 c.requires
-    c.in_ok-name.ensures.1 (c.as_slice.ensures.value ∙ c.in_ok-name.ensures.2) c.in_ok-name.ensures.3 c.in_ok-set.ensures.ok) c.members.invariant
+    (SlotsStandFor c.set.new.self) (slot_set c.args.room c.members.rest.now c.in_ok-name.after.now c.in_ok-name.ensures.0 c.members.found c.set.new.self c.in_ok-name.name.items c.in_ok-name.value c.in_ok-set.field-0 c.requires
+    c.in_ok-name.ensures.1 c.in_ok-name.ensures.2 c.in_ok-name.ensures.3 c.in_ok-set.ensures.ok) c.members.invariant
 
 pub members-members-smaller : goal.members-members-smaller
 members-members-smaller t c =
@@ -87,8 +87,8 @@ members-members-preserved t c =
     goes_on (member_at (element_at c.args.room)) 0x7d (SlotsStandFor c.members.found) c.members.rest.now (listed_within (member_at (element_at c.args.room)) 0x7d (suc (length c.args.text.now)) c.args.text.now)
     c.in_ok-name.ensures.0 c.in_ok-name.after.now c.in_ok-name.ensures.1 c.in_ok-comma.behind.now (c.in_ok-comma.ensures ∙ ap (λ (b : Bool). let r : Read Bool = Ok (b, c.in_ok-comma.behind.now) in r) c.if-not-comma.false)
     (member_no_longer c.args.room c.members.rest.now c.in_ok-name.after.now c.in_ok-name.ensures.0 c.in_ok-name.ensures.1)
-    (SlotsStandFor c.set.new.self) (slot_set c.args.room c.members.rest.now c.in_ok-name.after.now c.in_ok-name.ensures.0 c.members.found c.set.new.self c.as_slice.result.now c.in_ok-name.value c.in_ok-set.field-0 c.requires
-    c.in_ok-name.ensures.1 (c.as_slice.ensures.value ∙ c.in_ok-name.ensures.2) c.in_ok-name.ensures.3 c.in_ok-set.ensures.ok) c.members.invariant
+    (SlotsStandFor c.set.new.self) (slot_set c.args.room c.members.rest.now c.in_ok-name.after.now c.in_ok-name.ensures.0 c.members.found c.set.new.self c.in_ok-name.name.items c.in_ok-name.value c.in_ok-set.field-0 c.requires
+    c.in_ok-name.ensures.1 c.in_ok-name.ensures.2 c.in_ok-name.ensures.3 c.in_ok-set.ensures.ok) c.members.invariant
 
 pub object-returns : goal.object-returns
 object-returns t c =
