@@ -13,8 +13,8 @@ use Rattle.uq_value.specs.declared.value.Value.{Value}
 use Rattle.uq_value.specs.declared.value.Value.TheVariants.{Object as Object'}
 use Rattle.uq_value.specs.declared.error.ValueFault.{ValueFault}
 use Rattle.uq_codec.specs.Varint.{IsVarint}
-use Rattle.uq_codec.specs.Stored.{IsName, Spells, SpellsMembers}
-use Rattle.uq_codec.specs.Reading.{Front, NoFront, Fits, Passes, ReadsValue, IsMember, ReadsMember, Holds, ReadsMembers}
+use Rattle.uq_codec.specs.Stored.{IsName, IsMember, Spells, SpellsMembers}
+use Rattle.uq_codec.specs.Reading.{Front, NoFront, Fits, Passes, ReadsValue, ReadsMember, Holds, ReadsMembers}
 use Rattle.uq_codec.specs.declared.error.CodecFault.{CodecFault}
 use Rattle.uq_codec.specs.declared.error.CodecFault.TheVariants as fault
 use Rattle.uq_codec.proofs.Determined.{name_same, spelling_same, members_same, in_a_row}

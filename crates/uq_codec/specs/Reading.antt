@@ -12,7 +12,7 @@ use Rattle.uq_value.specs.declared.value.Value.{Value}
 use Rattle.uq_value.specs.declared.error.ValueFault.{ValueFault}
 use Rattle.uq_value.specs.declared.error.ValueFault.TheVariants as value
 use Rattle.uq_codec.specs.Varint.{IsVarint}
-use Rattle.uq_codec.specs.Stored.{IsName, Spells, SpellsItems, SpellsMembers}
+use Rattle.uq_codec.specs.Stored.{IsName, IsMember, Spells, SpellsItems, SpellsMembers}
 use Rattle.uq_codec.specs.declared.error.CodecFault.{CodecFault}
 use Rattle.uq_codec.specs.declared.error.CodecFault.TheVariants.{NotCanonical, Memory}
 
@@ -72,13 +72,6 @@ abbrev pub AddsItem : Datas → Datas → Data → Result (Unit {0}) CodecFault 
 AddsItem before after d = Reads (λ done. after ≡ before ++ d ∷ []) (most_size < data_size (list (before ++ d ∷ [])))
 
 -- a name and a value
-pub record IsMember (word name : Bytes) (d : Data) : Type 0 where
-  pub label : Bytes
-  pub front : Bytes
-  pub parts : word ≡ label ++ front
-  pub is_name : IsName label name
-  pub is_value : Spells front d
-
 abbrev pub ReadsMember : ℕ → Bytes → Result (Vec ℕ Global × Value × Bor Bytes) CodecFault → Type 0
 ReadsMember room bytes = Reads
     (λ x. Front (λ word. IsMember word x.0.items (plain x.1)) bytes x.2.now × (data_depth (plain x.1) ≤ room))

@@ -42,6 +42,14 @@ abbrev mutual
   SpellsMembers word (member name d ms) =
       (label : Bytes) × (front : Bytes) × (back : Bytes) × (word ≡ label ++ (front ++ back)) × IsName label name × Spells front d × SpellsMembers back ms
 
+-- one member: a name and a value
+pub record IsMember (word name : Bytes) (d : Data) : Type 0 where
+  pub label : Bytes
+  pub front : Bytes
+  pub parts : word ≡ label ++ front
+  pub is_name : IsName label name
+  pub is_value : Spells front d
+
 -- the bytes are the stored form of this value, which is within the limits
 pub record IsStored (word : Bytes) (v : Value) : Type 0 where
   pub spells : Spells word (plain v)

@@ -1,7 +1,7 @@
 -- What the private functions of the writer leave: what stood there, and behind it what they wrote.
 use Rattle.std.specs.Prelude.{◌≡◌, ℕ, ◌++◌, [], Result, OnOk, slice_index_or}
 use Rattle.uq_value.specs.Data.{Bytes, Data, Datas, Pairs, null}
-use Rattle.uq_codec.specs.Stored.{IsName, Spells}
+use Rattle.uq_codec.specs.Stored.{IsMember, Spells}
 
 -- behind what stood there stands a word, and where all of it was written, the word is whole
 pub record Writes {E : Type 0} (Whole : Bytes → Type 0) (old new : Bytes) (result : Result (Unit {0}) E) : Type 0 where
@@ -13,13 +13,9 @@ pub record Writes {E : Type 0} (Whole : Bytes → Type 0) (old new : Bytes) (res
 abbrev pub SpellsItemAt : Datas → ℕ → Bytes → Type 0
 SpellsItemAt ds at word = Spells word (slice_index_or ds at null)
 
--- a member: a name, and a value
-pub record SpellsMember (m : Bytes × Data) (word : Bytes) : Type 0 where
-  pub label : Bytes
-  pub front : Bytes
-  pub parts : word ≡ label ++ front
-  pub is_name : IsName label m.0
-  pub is_value : Spells front m.1
+-- a member
+abbrev pub SpellsMember : Bytes × Data → Bytes → Type 0
+SpellsMember m word = IsMember word m.0 m.1
 
 -- the member at a place
 abbrev pub SpellsMemberAt : Pairs → ℕ → Bytes → Type 0
