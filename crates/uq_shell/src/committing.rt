@@ -1,7 +1,8 @@
 //! The commit of a database to its disk.
-ghost use Rattle.std.specs.Prelude.{◌≡◌, length, OnOk};
+ghost use Rattle.std.specs.Prelude.{◌≡◌, ◌⊎◌, length, OnOk, IfErr};
 ghost use Rattle.std.specs.Option.{option_map};
 ghost use Rattle.uq_page.specs.Page.{bytes_of};
+ghost use Rattle.uq_outside.specs.declared.fault.DiskCall.{DiskCall};
 ghost use Rattle.uq_outside.specs.Causes.{HasCause};
 ghost use Rattle.uq_shell.specs.Store.{Store};
 ghost use Rattle.uq_shell.specs.Database.{Holds, IsDurable};
@@ -16,6 +17,7 @@ pub fn commit<D: Disk>(database: &Database, disk: &mut D) -> Result<(), DiskFaul
     ensures holds { OnOk result ((entry store : Store) → Holds D.Disk disk.old entry → Keeps database.now store → Holds D.Disk disk.new store) }
     ensures durable { OnOk result (IsDurable D.Disk disk.new) }
     ensures cause { HasCause (D.faults disk.old) (D.faults disk.new) result }
+    ensures kind { IfErr result (λ fault. (fault.call ≡ DiskCall.Write) ⊎ (fault.call ≡ DiskCall.Sync)) }
 {
     let [head, bucket] = database.pages.pages() else {
         unreachable!();
@@ -30,6 +32,7 @@ fn write_pages<D: Disk>(head: &Page, bucket: &Page, disk: &mut D) -> Result<(), 
     ensures head_size { OnOk result (length (bytes_of head.now) ≡ 4096) }
     ensures bucket_size { OnOk result (length (bytes_of bucket.now) ≡ 4096) }
     ensures cause { HasCause (D.faults disk.old) (D.faults disk.new) result }
+    ensures kind { IfErr result (λ fault. fault.call ≡ DiskCall.Write) }
 {
     disk.write_at(FileNo::Main, 0, head.bytes())?;
     disk.write_at(FileNo::Main, 4096, bucket.bytes())
