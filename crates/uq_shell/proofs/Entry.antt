@@ -4,13 +4,13 @@ use Rattle.std.specs.FinMap as map
 use Rattle.uq_outside.specs.declared.disk.Disk as disk
 use Rattle.uq_shell.specs.Store.{Store}
 use Rattle.uq_shell.specs.Command.{Request, FetchKey, BadCommand, UnknownCommand, Out, answer, fetched}
-use Rattle.uq_shell.specs.Database.{Holds, IsDurable, IsStill}
+use Rattle.uq_shell.specs.Database.{Holds, IsSettled, IsStill}
 use Rattle.uq_shell.specs.Run.{last_commit}
 
 -- the same content holds the same store
 pub still_holds : {D : Type 0} (g : disk.Ghosts D) (old new : D) (store : Store) → g.content new ≡ g.content old → Holds g old store → Holds g new store
 still_holds g old new store same holds = record { files = holds.files; told = same ∙ holds.told; stored = holds.stored }
 
--- a disk that is as it was still keeps its main file over a stop
-pub still_durable : {D : Type 0} (g : disk.Ghosts D) (old new : D) → IsStill g old new → IsDurable g old → IsDurable g new
-still_durable g old new still durable = λ files told left leaves. durable files (sym still.told ∙ told) left (still.stop left leaves)
+-- where nothing was pending, nothing is pending on a disk that is as it was
+pub still_settled : {D : Type 0} (g : disk.Ghosts D) (old new : D) → IsStill g old new → IsSettled g old → IsSettled g new
+still_settled g old new still settled = λ files told left leaves. settled files (sym still.told ∙ told) left (still.stop left leaves)

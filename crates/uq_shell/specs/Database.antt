@@ -82,6 +82,10 @@ pub record IsStill {D : Type 0} (g : Ghosts D) (old new : D) : Type 0 where
   pub told : g.content new ≡ g.content old
   pub stop : Only (g.may_leave old) (g.may_leave new)
 
+-- Nothing is pending: a stop now leaves what the disk tells.
+abbrev pub IsSettled : {D : Type 0} → Ghosts D → D → Type 0
+IsSettled g disk = ForSome (g.content disk) (λ files. Only (λ left. left ≡ files) (g.may_leave disk))
+
 -- A stop now leaves of the main file what the disk tells.
 abbrev pub IsDurable : {D : Type 0} → Ghosts D → D → Type 0
 IsDurable g disk = ForSome (g.content disk) (λ files. (left : Files) → g.may_leave disk left → left.main ≡ files.main)

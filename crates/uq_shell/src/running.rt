@@ -3,7 +3,7 @@ ghost use Rattle.std.specs.Prelude.{◌≡◌, ◌⊎◌, ◌↔◌, ◌≤◌, 
 ghost use Rattle.std.specs.Option.{ForSome};
 ghost use Rattle.uq_outside.specs.Causes.{Rose};
 ghost use Rattle.uq_shell.specs.Store.{Store, opened};
-ghost use Rattle.uq_shell.specs.Database.{Holds, HoldsNone, HaveShape, IsDurable, IsStill};
+ghost use Rattle.uq_shell.specs.Database.{Holds, HoldsNone, HaveShape, IsDurable, IsSettled, IsStill};
 ghost use Rattle.uq_shell.specs.Keeps.{Keeps};
 ghost use Rattle.uq_shell.specs.Command.{Answer, StoreKey, FetchKey, answer, asks_write, request};
 ghost use Rattle.uq_shell.specs.Request.{request_of};
@@ -49,7 +49,7 @@ pub fn run<D: Disk, I: Source, O: Sink>(
     ensures headline { (store : Store) → Holds D.Disk disk.old store → Meets (run_of (map string_bytes words.now) store) result (Rose (O.faults out.old) (O.faults out.new)) (O.written out.old) (O.written out.new) }
     ensures stored { (store : Store) → Holds D.Disk disk.old store → let run = run_of (map string_bytes words.now) store in (IsCommitUnderWay run.events result.done → ⊥) → Holds D.Disk disk.new (last_commit store (take result.done run.events)) }
     ensures durable { (store : Store) → Holds D.Disk disk.old store → IsCommitted (run_of (map string_bytes words.now) store).events result.done → IsDurable D.Disk disk.new }
-    ensures stays_durable { (store : Store) → Holds D.Disk disk.old store → IsDurable D.Disk disk.old → let run = run_of (map string_bytes words.now) store in (IsCommitUnderWay run.events result.done → ⊥) → IsDurable D.Disk disk.new }
+    ensures settled { (store : Store) → Holds D.Disk disk.old store → IsSettled D.Disk disk.old → let run = run_of (map string_bytes words.now) store in (IsCommitUnderWay run.events result.done → ⊥) → IsSettled D.Disk disk.new }
     ensures complete { (store : Store) → Holds D.Disk disk.old store → (Rose (D.faults disk.old) (D.faults disk.new) → ⊥) → (Rose (I.faults input.old) (I.faults input.new) → ⊥) → (Rose (O.faults out.old) (O.faults out.new) → ⊥) → IsComplete (run_of (map string_bytes words.now) store) result.status }
 {
     if lacks_form(words) {
@@ -75,7 +75,7 @@ fn obey<D: Disk, O: Sink>(
     ensures obeys { (store : Store) → Keeps database store → Holds D.Disk disk.old store → Obeys D.Disk store (obeyed (answer (request_of command.entry) None (opened store))) disk.new result (Rose (O.faults out.old) (O.faults out.new)) (O.written out.old) (O.written out.new) }
     ensures causes { HasCauses (Rose (D.faults disk.old) (D.faults disk.new)) (Rose (O.faults out.old) (O.faults out.new)) ((store : Store) → Keeps database store → ⊥) result.status }
     ensures durable { (store : Store) → Keeps database store → IsCommitted (obeyed (answer (request_of command.entry) None (opened store))).events result.done → IsDurable D.Disk disk.new }
-    ensures stays_durable { (store : Store) → Keeps database store → IsDurable D.Disk disk.old → (IsCommitUnderWay (obeyed (answer (request_of command.entry) None (opened store))).events result.done → ⊥) → IsDurable D.Disk disk.new }
+    ensures settled { (store : Store) → Keeps database store → IsSettled D.Disk disk.old → (IsCommitUnderWay (obeyed (answer (request_of command.entry) None (opened store))).events result.done → ⊥) → IsSettled D.Disk disk.new }
     ensures still { result.done ≡ 0 → disk.new ≡ disk.old }
     ensures reads { asks_write (request_of command.entry) ≡ false → disk.new ≡ disk.old }
     ensures line { EndsInLine result.status (Rose (O.faults out.old) (O.faults out.new)) (O.written out.old) (O.written out.new) }
@@ -96,7 +96,7 @@ fn serve<D: Disk, O: Sink>(reply: &Reply, database: &Database, disk: &mut D, out
     ensures obeys { (meant : Answer) (entry : Store) → Answers reply.now database.now meant → Holds D.Disk disk.old entry → Obeys D.Disk entry (obeyed meant) disk.new result (Rose (O.faults out.old) (O.faults out.new)) (O.written out.old) (O.written out.new) }
     ensures causes { HasCauses (Rose (D.faults disk.old) (D.faults disk.new)) (Rose (O.faults out.old) (O.faults out.new)) ⊥ result.status }
     ensures durable { (meant : Answer) → Answers reply.now database.now meant → IsCommitted (obeyed meant).events result.done → IsDurable D.Disk disk.new }
-    ensures stays_durable { (meant : Answer) → Answers reply.now database.now meant → IsDurable D.Disk disk.old → (IsCommitUnderWay (obeyed meant).events result.done → ⊥) → IsDurable D.Disk disk.new }
+    ensures settled { (meant : Answer) → Answers reply.now database.now meant → IsSettled D.Disk disk.old → (IsCommitUnderWay (obeyed meant).events result.done → ⊥) → IsSettled D.Disk disk.new }
     ensures still { result.done ≡ 0 → disk.new ≡ disk.old }
     ensures reads { database.now.is_begun ≡ false → disk.new ≡ disk.old }
     ensures line { EndsInLine result.status (Rose (O.faults out.old) (O.faults out.new)) (O.written out.old) (O.written out.new) }
@@ -118,7 +118,7 @@ fn settle<D: Disk, O: Sink>(reply: &Reply, database: &Database, disk: &mut D, ou
     ensures settles { (meant : Answer) → Answers reply.now database.now meant → Settles meant result }
     ensures stored { (meant : Answer) (entry : Store) → Answers reply.now database.now meant → Holds D.Disk disk.old entry → (IsCommitUnderWay (obeyed meant).events result.done → ⊥) → Holds D.Disk disk.new (last_commit entry (take result.done (obeyed meant).events)) }
     ensures durable { (meant : Answer) → Answers reply.now database.now meant → IsCommitted (obeyed meant).events result.done → IsDurable D.Disk disk.new }
-    ensures stays_durable { (meant : Answer) → Answers reply.now database.now meant → IsDurable D.Disk disk.old → (IsCommitUnderWay (obeyed meant).events result.done → ⊥) → IsDurable D.Disk disk.new }
+    ensures settled { (meant : Answer) → Answers reply.now database.now meant → IsSettled D.Disk disk.old → (IsCommitUnderWay (obeyed meant).events result.done → ⊥) → IsSettled D.Disk disk.new }
     ensures answered { 1 ≤ result.done }
     ensures reads { database.now.is_begun ≡ false → disk.new ≡ disk.old }
     ensures line { Writes (line_behind [] (ending_of result.status)) (O.written out.old) (O.written out.new) (Rose (O.faults out.old) (O.faults out.new)) }

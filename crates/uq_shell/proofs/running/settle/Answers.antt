@@ -5,6 +5,6 @@ pub returns-in-Err-clause-stored : goal.returns-in-Err-clause-stored
 returns-in-Err-clause-stored g c meant entry answers holds none =
     absurd (none (rw c.end.ensures.ended (under_way c.args.reply.now c.args.database.now meant answers c.if-not-database.false)))
 
-pub returns-in-Err-clause-stays_durable : goal.returns-in-Err-clause-stays_durable
-returns-in-Err-clause-stays_durable g c meant answers durable none =
+pub returns-in-Err-clause-settled : goal.returns-in-Err-clause-settled
+returns-in-Err-clause-settled g c meant answers durable none =
     absurd (none (rw c.end.ensures.ended (under_way c.args.reply.now c.args.database.now meant answers c.if-not-database.false)))
