@@ -9,15 +9,15 @@ use Rattle.uq_outside.specs.declared.disk.Disk as disk
 use Rattle.std.specs.Prelude.{Result, Ok, Err, OnOk, IfOk}
 use Rattle.uq_outside.specs.Files.{Files, in_file}
 use Rattle.uq_outside.specs.Files.{Keeps as KeepsFile}
-use Rattle.uq_outside.specs.Stops.{Only}
-use Rattle.uq_outside.specs.declared.fault.FileNo.TheVariants.{Main}
+use Rattle.uq_outside.specs.Stops.{Only, Follows}
+use Rattle.uq_outside.specs.declared.fault.FileNo.TheVariants.{Main, Journal}
 use Rattle.uq_page.specs.declared.page.Page.{Page}
 use Rattle.uq_page.specs.Page.{bytes_of}
 use Rattle.uq_page.specs.MemPages.{pages_in}
 use Rattle.uq_outside.specs.Written.{written}
 use Rattle.uq_page.specs.declared.header.Header.{Header}
 use Rattle.uq_shell.specs.Store.{Store}
-use Rattle.uq_shell.specs.Database.{Holds, HoldsStore, HoldEntries, IsDatabase, IsDurable, IsEmpty, IsTwoPages}
+use Rattle.uq_shell.specs.Database.{Holds, HoldsStore, HoldEntries, IsDatabase, IsDurable, IsSettled, IsEmpty, IsTwoPages}
 use Rattle.uq_shell.specs.Keeps.{Keeps, with_pages}
 use Rattle.uq_shell.specs.declared.database.Database.{Database}
 
@@ -152,3 +152,20 @@ taken_in database store header head bucket is pages entries =
 pub synced : {D E : Type 0} (g : disk.Ghosts D) (result : Result (Unit {0}) E) (old new : D) → g.content new ≡ g.content old → OnOk result (ForSome (g.content old) (λ files. Only (KeepsFile Main files) (g.may_leave new))) → OnOk result (IsDurable g new)
 synced g (Err fault) old new same durable = tt
 synced g (Ok done) old new same durable = λ files told left leaves. durable files (sym same ∙ told) left leaves
+
+files_ext : (a b : Files) → a.main ≡ b.main → a.journal ≡ b.journal → a ≡ b
+files_ext a b main journal = ap (λ (m : List ℕ). record a { main = m }) main ∙ ap (λ (j : List ℕ). record b { journal = j }) journal
+
+told_before : (was : Option Files) (change : Files → Files) (files : Files) → Some files ≡ option_map change was → (x : Files) × (was ≡ Some x) × (files ≡ change x)
+told_before None change files is = cc
+told_before (Some x) change files is = (x, refl, cc)
+
+-- Nothing is pending behind the sync of what was written to the main file, where nothing was pending before.
+pub settled_again : {D E : Type 0} (g : disk.Ghosts D) (result : Result (Unit {0}) E) (old mid new : D) (change : Files → Files) → ((files : Files) → (change files).journal ≡ files.journal) → g.content mid ≡ option_map change (g.content old) → Follows (KeepsFile Journal) (g.may_leave old) (g.may_leave mid) → g.content new ≡ g.content mid → Only (g.may_leave mid) (g.may_leave new) → OnOk result (ForSome (g.content mid) (λ files. Only (KeepsFile Main files) (g.may_leave new))) → OnOk result (IsSettled g old → IsSettled g new)
+settled_again g (Err fault) old mid new change other written journal same stop durable = tt
+settled_again g (Ok done) old mid new change other written journal same stop durable = λ settled files told left leaves.
+    let told_mid : g.content mid ≡ Some files = sym same ∙ told in
+    let was = told_before (g.content old) change files (sym told_mid ∙ written) in
+    let earlier = journal left (stop left leaves) in
+    files_ext left files (durable files told_mid left leaves)
+    (earlier.2 ∙ ap (λ (x : Files). x.journal) (settled was.0 was.1 earlier.0 earlier.1) ∙ sym (other was.0) ∙ sym (ap (λ (x : Files). x.journal) was.2))

@@ -12,6 +12,13 @@ pub data Request : Type 0 where
   BadCommand : Request
   UnknownCommand : Request
 
+-- whether it asks for a write
+abbrev pub asks_write : Request → Bool
+asks_write (StoreKey key value) = true
+asks_write (FetchKey key) = false
+asks_write BadCommand = false
+asks_write UnknownCommand = false
+
 -- what a run does to the world outside: a piece of output, or a commit of a store
 pub data Event : Type 0 where
   Out : List ℕ → Event

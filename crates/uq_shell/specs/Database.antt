@@ -4,6 +4,7 @@ use Rattle.std.specs.Option.{ForSome}
 use Rattle.std.specs.FinMap.{empty, entries}
 use Rattle.uq_outside.specs.declared.disk.Disk.{Ghosts}
 use Rattle.uq_outside.specs.Files.{Files}
+use Rattle.uq_outside.specs.Stops.{Only}
 use Rattle.uq_page.specs.declared.header.Header.{Header}
 use Rattle.uq_page.specs.Header.{IsHeader}
 use Rattle.uq_hash.specs.Map.{Map, Entry, HoldsMap}
@@ -75,6 +76,15 @@ pub record HasHeader (main : List ℕ) : Type 0 where
 pub record HaveShape (files : Files) : Type 0 where
   pub no_journal : length files.journal ≡ 0
   pub main : (length files.main ≡ 0) ⊎ HasHeader files.main
+
+-- The disk is as it was: it tells the same, and a stop leaves nothing that it might not have left before.
+pub record IsStill {D : Type 0} (g : Ghosts D) (old new : D) : Type 0 where
+  pub told : g.content new ≡ g.content old
+  pub stop : Only (g.may_leave old) (g.may_leave new)
+
+-- Nothing is pending: a stop now leaves what the disk tells.
+abbrev pub IsSettled : {D : Type 0} → Ghosts D → D → Type 0
+IsSettled g disk = ForSome (g.content disk) (λ files. Only (λ left. left ≡ files) (g.may_leave disk))
 
 -- A stop now leaves of the main file what the disk tells.
 abbrev pub IsDurable : {D : Type 0} → Ghosts D → D → Type 0

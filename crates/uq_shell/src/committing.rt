@@ -1,10 +1,13 @@
 //! The commit of a database to its disk.
-ghost use Rattle.std.specs.Prelude.{◌≡◌, length, OnOk};
+ghost use Rattle.std.specs.Prelude.{◌≡◌, ◌⊎◌, length, OnOk, IfErr};
 ghost use Rattle.std.specs.Option.{option_map};
 ghost use Rattle.uq_page.specs.Page.{bytes_of};
+ghost use Rattle.uq_outside.specs.declared.fault.DiskCall.{DiskCall};
 ghost use Rattle.uq_outside.specs.Causes.{HasCause};
+ghost use Rattle.uq_outside.specs.Files.{Keeps as KeepsFile};
+ghost use Rattle.uq_outside.specs.Stops.{Follows};
 ghost use Rattle.uq_shell.specs.Store.{Store};
-ghost use Rattle.uq_shell.specs.Database.{Holds, IsDurable};
+ghost use Rattle.uq_shell.specs.Database.{Holds, IsDurable, IsSettled};
 ghost use Rattle.uq_shell.specs.Keeps.{Keeps, with_pages};
 
 use crate::database::Database;
@@ -15,7 +18,9 @@ use uq_page::Page;
 pub fn commit<D: Disk>(database: &Database, disk: &mut D) -> Result<(), DiskFault>
     ensures holds { OnOk result ((entry store : Store) → Holds D.Disk disk.old entry → Keeps database.now store → Holds D.Disk disk.new store) }
     ensures durable { OnOk result (IsDurable D.Disk disk.new) }
+    ensures settled { OnOk result (IsSettled D.Disk disk.old → IsSettled D.Disk disk.new) }
     ensures cause { HasCause (D.faults disk.old) (D.faults disk.new) result }
+    ensures kind { IfErr result (λ fault. (fault.call ≡ DiskCall.Write) ⊎ (fault.call ≡ DiskCall.Sync)) }
 {
     let [head, bucket] = database.pages.pages() else {
         unreachable!();
@@ -29,7 +34,9 @@ fn write_pages<D: Disk>(head: &Page, bucket: &Page, disk: &mut D) -> Result<(), 
     ensures written { OnOk result (D.content disk.new ≡ option_map (with_pages (bytes_of head.now) (bytes_of bucket.now)) (D.content disk.old)) }
     ensures head_size { OnOk result (length (bytes_of head.now) ≡ 4096) }
     ensures bucket_size { OnOk result (length (bytes_of bucket.now) ≡ 4096) }
+    ensures journal { Follows (KeepsFile FileNo.Journal) (D.may_leave disk.old) (D.may_leave disk.new) }
     ensures cause { HasCause (D.faults disk.old) (D.faults disk.new) result }
+    ensures kind { IfErr result (λ fault. fault.call ≡ DiskCall.Write) }
 {
     disk.write_at(FileNo::Main, 0, head.bytes())?;
     disk.write_at(FileNo::Main, 4096, bucket.bytes())

@@ -3,6 +3,7 @@ ghost use Rattle.std.specs.Prelude.{◌≡◌, ◌+◌, ◌≤◌, ◌∷◌, []
 ghost use Rattle.std.specs.Option.{ForSome};
 ghost use Rattle.std.specs.FinMap.{empty};
 ghost use Rattle.uq_outside.specs.Causes.{Rose, HasCause};
+ghost use Rattle.uq_outside.specs.Stops.{Only};
 ghost use Rattle.uq_page.specs.Page.{bytes_of};
 ghost use Rattle.uq_page.specs.MemPages.{pages_in, fails_in, is_sound_now};
 ghost use Rattle.uq_page.specs.declared.header.Header.{Header};
@@ -23,6 +24,7 @@ const PAGE: u64 = 4096;
 /// Binds the disk to this name, and takes its database into memory. It changes nothing on the disk.
 pub fn open<D: Disk>(alloc: Global, disk: &mut D, name: &str) -> Result<Database, OpenFault>
     ensures same { D.content disk.new ≡ D.content disk.old }
+    ensures stop { Only (D.may_leave disk.old) (D.may_leave disk.new) }
     ensures keeps { IfOk result (λ database. (store : Store) → Holds D.Disk disk.old store → Keeps database store) }
     ensures shape { OnOk result (ForSome (D.content disk.old) HaveShape) }
     ensures begun { IfOk result (λ database. database.is_begun ≡ false) }
@@ -69,6 +71,7 @@ fn make_empty(alloc: Global) -> Result<Database, OpenFault>
 fn take_in<D: Disk>(alloc: Global, disk: &mut D) -> Result<Database, OpenFault>
     requires { ForSome (D.content disk.old) (λ files. length files.main ≡ 8192) }
     ensures same { D.content disk.new ≡ D.content disk.old }
+    ensures stop { Only (D.may_leave disk.old) (D.may_leave disk.new) }
     ensures keeps { IfOk result (λ database. (store : Store) → Holds D.Disk disk.old store → Keeps database store) }
     ensures shape { OnOk result (ForSome (D.content disk.old) (λ files. HasHeader files.main)) }
     ensures begun { IfOk result (λ database. database.is_begun ≡ false) }
@@ -122,6 +125,7 @@ fn read_page<D: Disk>(disk: &mut D, at: u64) -> Result<Page, DiskFault>
     requires { ForSome (D.content disk.old) (λ files. at + 4096 ≤ length files.main) }
     ensures page { IfOk result (λ page. ForSome (D.content disk.old) (λ files. bytes_of page ≡ take 4096 (drop at files.main))) }
     ensures same { D.content disk.new ≡ D.content disk.old }
+    ensures stop { Only (D.may_leave disk.old) (D.may_leave disk.new) }
     ensures cause { HasCause (D.faults disk.old) (D.faults disk.new) result }
 {
     let mut bytes = [0; 4096];

@@ -1,11 +1,11 @@
 //! A run of the program, from its words to its exit status.
-ghost use Rattle.std.specs.Prelude.{◌≡◌, ◌⊎◌, ◌↔◌, ◌≤◌, ℕ, true, false, List, [], ◌∷◌, length, map, take, string_bytes, IsTrue, IfOk, IfErr, Err, Option, None, Vec};
+ghost use Rattle.std.specs.Prelude.{◌≡◌, ◌⊎◌, ◌↔◌, ◌≤◌, ℕ, true, false, List, [], ◌∷◌, length, map, take, drop, string_bytes, IsTrue, IfOk, OnOk, IfErr, Err, Option, None, Vec};
 ghost use Rattle.std.specs.Option.{ForSome};
 ghost use Rattle.uq_outside.specs.Causes.{Rose};
 ghost use Rattle.uq_shell.specs.Store.{Store, opened};
-ghost use Rattle.uq_shell.specs.Database.{Holds, HoldsNone, HaveShape, IsDurable};
+ghost use Rattle.uq_shell.specs.Database.{Holds, HoldsNone, HaveShape, IsDurable, IsSettled, IsStill};
 ghost use Rattle.uq_shell.specs.Keeps.{Keeps};
-ghost use Rattle.uq_shell.specs.Command.{Answer, StoreKey, FetchKey, answer};
+ghost use Rattle.uq_shell.specs.Command.{Answer, StoreKey, FetchKey, answer, asks_write, request};
 ghost use Rattle.uq_shell.specs.Request.{request_of};
 ghost use Rattle.uq_shell.specs.Run.{run_of, is_usage, obeyed, last_commit};
 ghost use Rattle.uq_shell.specs.Followed.{EndsInLine, ending_of, line_behind};
@@ -38,6 +38,8 @@ pub fn run<D: Disk, I: Source, O: Sink>(
     ensures causes { HasCauses (Rose (D.faults disk.old) (D.faults disk.new)) (Rose (I.faults input.old) (I.faults input.new) ⊎ Rose (O.faults out.old) (O.faults out.new)) (HoldsNone D.Disk disk.old) result.status }
     ensures usage { (result.status ≡ Status.Usage) ↔ IsTrue (is_usage (map string_bytes words.now)) }
     ensures untouched { result.status ≡ Status.Usage → disk.new ≡ disk.old }
+    ensures still { result.done ≡ 0 → IsStill D.Disk disk.old disk.new }
+    ensures reads { asks_write (request (drop 1 (map string_bytes words.now))) ≡ false → IsStill D.Disk disk.old disk.new }
     ensures unread { input.new ≡ input.old }
     ensures counts { (D.faults disk.old ≤ D.faults disk.new) × (O.faults out.old ≤ O.faults out.new) }
     ensures shape { IsTrue (is_answered result.status) → ForSome (D.content disk.old) HaveShape }
@@ -47,6 +49,7 @@ pub fn run<D: Disk, I: Source, O: Sink>(
     ensures headline { (store : Store) → Holds D.Disk disk.old store → Meets (run_of (map string_bytes words.now) store) result (Rose (O.faults out.old) (O.faults out.new)) (O.written out.old) (O.written out.new) }
     ensures stored { (store : Store) → Holds D.Disk disk.old store → let run = run_of (map string_bytes words.now) store in (IsCommitUnderWay run.events result.done → ⊥) → Holds D.Disk disk.new (last_commit store (take result.done run.events)) }
     ensures durable { (store : Store) → Holds D.Disk disk.old store → IsCommitted (run_of (map string_bytes words.now) store).events result.done → IsDurable D.Disk disk.new }
+    ensures settled { (store : Store) → Holds D.Disk disk.old store → IsSettled D.Disk disk.old → let run = run_of (map string_bytes words.now) store in (IsCommitUnderWay run.events result.done → ⊥) → IsSettled D.Disk disk.new }
     ensures complete { (store : Store) → Holds D.Disk disk.old store → (Rose (D.faults disk.old) (D.faults disk.new) → ⊥) → (Rose (I.faults input.old) (I.faults input.new) → ⊥) → (Rose (O.faults out.old) (O.faults out.new) → ⊥) → IsComplete (run_of (map string_bytes words.now) store) result.status }
 {
     if lacks_form(words) {
@@ -72,6 +75,9 @@ fn obey<D: Disk, O: Sink>(
     ensures obeys { (store : Store) → Keeps database store → Holds D.Disk disk.old store → Obeys D.Disk store (obeyed (answer (request_of command.entry) None (opened store))) disk.new result (Rose (O.faults out.old) (O.faults out.new)) (O.written out.old) (O.written out.new) }
     ensures causes { HasCauses (Rose (D.faults disk.old) (D.faults disk.new)) (Rose (O.faults out.old) (O.faults out.new)) ((store : Store) → Keeps database store → ⊥) result.status }
     ensures durable { (store : Store) → Keeps database store → IsCommitted (obeyed (answer (request_of command.entry) None (opened store))).events result.done → IsDurable D.Disk disk.new }
+    ensures settled { (store : Store) → Keeps database store → IsSettled D.Disk disk.old → (IsCommitUnderWay (obeyed (answer (request_of command.entry) None (opened store))).events result.done → ⊥) → IsSettled D.Disk disk.new }
+    ensures still { result.done ≡ 0 → disk.new ≡ disk.old }
+    ensures reads { asks_write (request_of command.entry) ≡ false → disk.new ≡ disk.old }
     ensures line { EndsInLine result.status (Rose (O.faults out.old) (O.faults out.new)) (O.written out.old) (O.written out.new) }
     ensures counts { (D.faults disk.old ≤ D.faults disk.new) × (O.faults out.old ≤ O.faults out.new) }
     ensures not_usage { result.status ≡ Status.Usage → ⊥ }
@@ -90,6 +96,9 @@ fn serve<D: Disk, O: Sink>(reply: &Reply, database: &Database, disk: &mut D, out
     ensures obeys { (meant : Answer) (entry : Store) → Answers reply.now database.now meant → Holds D.Disk disk.old entry → Obeys D.Disk entry (obeyed meant) disk.new result (Rose (O.faults out.old) (O.faults out.new)) (O.written out.old) (O.written out.new) }
     ensures causes { HasCauses (Rose (D.faults disk.old) (D.faults disk.new)) (Rose (O.faults out.old) (O.faults out.new)) ⊥ result.status }
     ensures durable { (meant : Answer) → Answers reply.now database.now meant → IsCommitted (obeyed meant).events result.done → IsDurable D.Disk disk.new }
+    ensures settled { (meant : Answer) → Answers reply.now database.now meant → IsSettled D.Disk disk.old → (IsCommitUnderWay (obeyed meant).events result.done → ⊥) → IsSettled D.Disk disk.new }
+    ensures still { result.done ≡ 0 → disk.new ≡ disk.old }
+    ensures reads { database.now.is_begun ≡ false → disk.new ≡ disk.old }
     ensures line { EndsInLine result.status (Rose (O.faults out.old) (O.faults out.new)) (O.written out.old) (O.written out.new) }
     ensures counts { (D.faults disk.old ≤ D.faults disk.new) × (O.faults out.old ≤ O.faults out.new) }
     ensures not_usage { result.status ≡ Status.Usage → ⊥ }
@@ -109,6 +118,9 @@ fn settle<D: Disk, O: Sink>(reply: &Reply, database: &Database, disk: &mut D, ou
     ensures settles { (meant : Answer) → Answers reply.now database.now meant → Settles meant result }
     ensures stored { (meant : Answer) (entry : Store) → Answers reply.now database.now meant → Holds D.Disk disk.old entry → (IsCommitUnderWay (obeyed meant).events result.done → ⊥) → Holds D.Disk disk.new (last_commit entry (take result.done (obeyed meant).events)) }
     ensures durable { (meant : Answer) → Answers reply.now database.now meant → IsCommitted (obeyed meant).events result.done → IsDurable D.Disk disk.new }
+    ensures settled { (meant : Answer) → Answers reply.now database.now meant → IsSettled D.Disk disk.old → (IsCommitUnderWay (obeyed meant).events result.done → ⊥) → IsSettled D.Disk disk.new }
+    ensures answered { 1 ≤ result.done }
+    ensures reads { database.now.is_begun ≡ false → disk.new ≡ disk.old }
     ensures line { Writes (line_behind [] (ending_of result.status)) (O.written out.old) (O.written out.new) (Rose (O.faults out.old) (O.faults out.new)) }
     ensures causes { HasCauses (Rose (D.faults disk.old) (D.faults disk.new)) ⊥ ⊥ result.status }
     ensures not_usage { result.status ≡ Status.Usage → ⊥ }
@@ -144,6 +156,7 @@ fn end<O: Sink>(status: Status, done: u128, out: &mut O) -> Ended
 fn answer(alloc: Global, command: Command<'_>, database: &mut Database) -> Result<Reply, FetchFault>
     requires { database.old.is_begun ≡ false }
     ensures answers { IfOk result (λ reply. (store : Store) → Keeps database.old store → Answers reply database.new (answer (request_of command.entry) None (opened store))) }
+    ensures reads { asks_write (request_of command.entry) ≡ false → OnOk result (database.new.is_begun ≡ false) }
     ensures line { IfOk result IsLine }
     ensures corrupt { result ≡ Err FetchFault.Corrupt → (store : Store) → Keeps database.old store → ⊥ }
 {
@@ -180,6 +193,7 @@ fn store(
 fn fetch(alloc: Global, key: &[u8], database: &mut Database) -> Result<Reply, FetchFault>
     requires { database.old.is_begun ≡ false }
     ensures answers { IfOk result (λ reply. (store : Store) → Keeps database.old store → Answers reply database.new (answer (FetchKey key.now) None (opened store))) }
+    ensures reads { OnOk result (database.new.is_begun ≡ false) }
     ensures line { IfOk result IsLine }
     ensures corrupt { result ≡ Err FetchFault.Corrupt → (store : Store) → Keeps database.old store → ⊥ }
 {

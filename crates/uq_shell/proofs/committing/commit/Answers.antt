@@ -1,5 +1,5 @@
-use Rattle.std.proofs.Common.{◌∙◌}
-use Rattle.uq_shell.proofs.Files.{committed_entries, holds_written, on_ok, synced}
+use Rattle.std.proofs.Common.{refl, ◌∙◌}
+use Rattle.uq_shell.proofs.Files.{committed_entries, holds_written, on_ok, settled_again, synced}
 use Rattle.uq_shell.proofs.committing.commit.Goals as goal
 
 pub returns-clause-holds : goal.returns-clause-holds
@@ -10,3 +10,7 @@ returns-clause-holds g c = on_ok c.sync.result _ (λ entry store holds keeps.
 
 pub returns-clause-durable : goal.returns-clause-durable
 returns-clause-durable g c = synced g.D.Disk c.sync.result c.write_pages.new.disk c.sync.new.self c.sync.ensures.same c.sync.ensures.durable
+
+pub returns-clause-settled : goal.returns-clause-settled
+returns-clause-settled g c =
+    settled_again g.D.Disk c.sync.result c.args.disk.now c.write_pages.new.disk c.sync.new.self _ (λ files. refl) c.in_ok-write_pages.ensures.written c.in_ok-write_pages.ensures.journal c.sync.ensures.same c.sync.ensures.stop c.sync.ensures.durable

@@ -36,3 +36,6 @@ returns-clause-line g c = rw c.end-in-Err-Memory.ensures.ended (ends_first Memor
 
 pub returns-in-Ok-clause-durable : goal.returns-in-Ok-clause-durable
 returns-in-Ok-clause-durable g c store keeps = c.serve.ensures.durable _ (c.in-Ok.ensures.answers store keeps)
+
+pub returns-in-Ok-clause-settled : goal.returns-in-Ok-clause-settled
+returns-in-Ok-clause-settled g c store keeps = c.serve.ensures.settled _ (c.in-Ok.ensures.answers store keeps)

@@ -4,7 +4,7 @@ use Rattle.uq_shell.specs.Request.{request_of}
 use Rattle.uq_shell.specs.Run.{run_of}
 use Rattle.uq_shell.specs.declared.status.Status.TheVariants.{Usage, Disk, NotDatabase, Memory}
 use Rattle.uq_shell.proofs.Endings.{meets_ended}
-use Rattle.uq_shell.proofs.Entry.{still_holds}
+use Rattle.uq_shell.proofs.Entry.{still_holds, still_settled}
 use Rattle.uq_shell.proofs.Served.{ends_first, rose_later}
 use Rattle.uq_shell.proofs.Words.{asked-rest, run_of-usage, run_of-obeyed}
 use Rattle.uq_shell.proofs.running.run.Goals as goal
@@ -61,3 +61,16 @@ returns-in-Err-Memory-clause-line g c = rw c.end-in-Err-Memory.ensures.ended (en
 pub returns-in-Ok-clause-durable : goal.returns-in-Ok-clause-durable
 returns-in-Ok-clause-durable g c store holds =
     rw (run_of-obeyed (map string_bytes c.args.words.now) store c.if-lacks_form.ensures, ← asked-rest (request_of c.read_command.result) c.args.words.now c.read_command.ensures) (c.obey.ensures.durable store (c.in-Ok.ensures.keeps store holds))
+
+pub returns-in-Ok-clause-settled : goal.returns-in-Ok-clause-settled
+returns-in-Ok-clause-settled g c store holds durable =
+    rw (run_of-obeyed (map string_bytes c.args.words.now) store c.if-lacks_form.ensures, ← asked-rest (request_of c.read_command.result) c.args.words.now c.read_command.ensures) (c.obey.ensures.settled store (c.in-Ok.ensures.keeps store holds) (still_settled g.D.Disk _ _ (record { told = c.open.ensures.same; stop = c.open.ensures.stop }) durable))
+
+pub returns-in-Err-Disk-clause-settled : goal.returns-in-Err-Disk-clause-settled
+returns-in-Err-Disk-clause-settled g c store holds durable none = still_settled g.D.Disk _ _ (record { told = c.open.ensures.same; stop = c.open.ensures.stop }) durable
+
+pub returns-in-Err-NotDatabase-clause-settled : goal.returns-in-Err-NotDatabase-clause-settled
+returns-in-Err-NotDatabase-clause-settled g c store holds durable none = still_settled g.D.Disk _ _ (record { told = c.open.ensures.same; stop = c.open.ensures.stop }) durable
+
+pub returns-in-Err-Memory-clause-settled : goal.returns-in-Err-Memory-clause-settled
+returns-in-Err-Memory-clause-settled g c store holds durable none = still_settled g.D.Disk _ _ (record { told = c.open.ensures.same; stop = c.open.ensures.stop }) durable
