@@ -106,19 +106,16 @@ bytes_pushed old flushed new bs waiting then_waiting some' first second others =
 abbrev behind_bytes : Bytes → Read (List Piece) → Read (List Piece)
 behind_bytes bs read = read >>= λ y. Ok (map byte bs ++ y.0, y.1)
 
+behind_none : (read : Read (List Piece)) → read ≡ behind_bytes [] read
+behind_none (Ok x) = refl
+behind_none (Err w) = refl
+
+-- the pieces of bytes that stand for themselves are these bytes, and then those behind them
 verbatim_pieces : (n : ℕ) (ts : Bytes) → length ts ≤ n → (m : ℕ) × (length (behind_verbatim ts) ≤ m) × (pieces_within n ts ≡ behind_bytes (verbatim_of ts) (pieces_within m (behind_verbatim ts)))
-verbatim_pieces n [] fits' = (n, fits', same (pieces_within n []))
-  where
-    same : (read : Read (List Piece)) → read ≡ behind_bytes [] read
-    same (Ok x) = refl
-    same (Err w) = refl
+verbatim_pieces n [] fits' = (n, fits', behind_none (pieces_within n []))
 verbatim_pieces zero (c ∷ cs) fits' = absurd (omega (arith, fits'))
 verbatim_pieces (suc n) (c ∷ cs) fits' = by (is_verbatim c) refl (verbatim_pieces n cs (omega (arith, fits')))
   where
-    same : (read : Read (List Piece)) → read ≡ behind_bytes [] read
-    same (Ok x) = refl
-    same (Err w) = refl
-
     one_more : (read : Read (List Piece)) → (behind_bytes (verbatim_of cs) read >>= λ y. Ok (byte c ∷ y.0, y.1)) ≡ behind_bytes (c ∷ verbatim_of cs) read
     one_more (Ok x) = refl
     one_more (Err w) = refl
@@ -131,7 +128,7 @@ verbatim_pieces (suc n) (c ∷ cs) fits' = by (is_verbatim c) refl (verbatim_pie
     by : (b : Bool) → is_verbatim c ≡ b → (m : ℕ) × (length (behind_verbatim cs) ≤ m) × (pieces_within n cs ≡ behind_bytes (verbatim_of cs) (pieces_within m (behind_verbatim cs)))
         → (m : ℕ) × (length (cond b (behind_verbatim cs) (c ∷ cs)) ≤ m) × (pieces_within (suc n) (c ∷ cs) ≡ behind_bytes (cond b (c ∷ verbatim_of cs) []) (pieces_within m (cond b (behind_verbatim cs) (c ∷ cs))))
     by true is (m, room, e) = (m, room, first is ∙ ap (λ (r : Read (List Piece)). r >>= λ y. Ok (byte c ∷ y.0, y.1)) e ∙ one_more (pieces_within m (behind_verbatim cs)))
-    by false is others = (suc n, fits', same (pieces_within (suc n) (c ∷ cs)))
+    by false is others = (suc n, fits', behind_none (pieces_within (suc n) (c ∷ cs)))
 
 pub verbatim_goes_on : (bs later : Bytes) (waiting then_waiting : Option ℕ) (ts run behind : Bytes) (total : Read Bytes) → run ≡ verbatim_of ts → behind ≡ behind_verbatim ts
     → ((others : List Piece) → later ++ bytes_behind then_waiting others ≡ bs ++ bytes_behind waiting (map byte run ++ others))
