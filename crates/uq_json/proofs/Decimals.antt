@@ -1,5 +1,5 @@
 -- The number of decimal digits, one more digit at a time.
-use Rattle.std.proofs.Common.{◌≡◌, ◌<◌, ◌≤◌, ◌+◌, ◌*◌, ◌-◌, ◌^◌, min, ℕ, zero, suc, refl, ap, sym, ◌∙◌, add-one, [], ◌∷◌, ◌++◌, length, take, get_or, Bool, true, false, ◌&&◌, arith}
+use Rattle.std.proofs.Common.{◌≡◌, ◌<◌, ◌+◌, ◌*◌, ◌-◌, ◌^◌, min, ℕ, zero, suc, refl, ap, ◌∙◌, add-one, [], ◌∷◌, ◌++◌, length, take, get_or, Bool, true, false, ◌&&◌, arith}
 use Rattle.std.specs.Char.{digit_value, is_ascii_digit}
 use Rattle.std.specs.List.{list_all}
 use Rattle.std.proofs.Math.Seq.{take-suc}

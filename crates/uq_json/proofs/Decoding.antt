@@ -1,8 +1,8 @@
 -- Decoding piece by piece.
-use Rattle.std.proofs.Common.{◌≡◌, ◌≢◌, ℕ, zero, suc, ◌<◌, ◌≤◌, ◌+◌, ◌-◌, Bool, true, false, cond, eqb, inl, inr, List, [], ◌∷◌, ◌++◌, length, take, drop, get_or, Option, Some, None, Ok, Err, refl, sym, ap, ◌∙◌, append-nil, length-append, arith}
+use Rattle.std.proofs.Common.{◌≡◌, ℕ, zero, suc, ◌<◌, ◌≤◌, ◌-◌, Bool, true, false, cond, eqb, List, [], ◌∷◌, ◌++◌, length, take, drop, get_or, Option, Some, None, Ok, Err, refl, sym, ap, ◌∙◌, length-append, arith}
 use Rattle.std.proofs.lemmas.Bool.{eqb-false}
 use Rattle.uq_value.specs.Data.{Bytes}
-use Rattle.uq_json.specs.Strings.{Piece, byte, code, are_hex, hex_number}
+use Rattle.uq_json.specs.Strings.{Piece, code, are_hex, hex_number}
 use Rattle.uq_json.specs.Decoding.{bytes_behind, waiting_bytes, decoded}
 use Rattle.uq_json.specs.Reading.{Read, ◌>>=◌, Fails, is_next, unicode_at, piece_at, pieces_within}
 use Rattle.uq_json.specs.declared.error.JsonFault.{JsonFault}

@@ -1,17 +1,16 @@
 -- Reading values with blanks around them, members, and values of one level.
-use Rattle.std.proofs.Common.{◌≡◌, ◌≢◌, ℕ, zero, suc, ◌<◌, ◌≤◌, ◌+◌, Bool, true, false, cond, eqb, ◌⊎◌, inl, inr, List, [], ◌∷◌, ◌++◌, length, drop, Ok, Err, refl, sym, ap, subst, ◌∙◌, append_assoc, length-append, codes, arith}
-use Rattle.std.proofs.lemmas.Bool.{eqb-true, eqb-false, eq-eqb, ne_eqb}
-use Rattle.uq_value.specs.Data.{Bytes, Data, Datas, Pairs, null, list, object}
-use Rattle.uq_json.specs.Grammar.{Language, is_blank, AreBlanks, Padded, Bracketed, none, some, IsMember, merged, IsScalar, of_null, IsValue, of_scalar, of_list, of_object}
+use Rattle.std.proofs.Common.{◌≡◌, ◌≢◌, ℕ, false, eqb, ◌⊎◌, inl, inr, [], ◌∷◌, ◌++◌, Ok, Err, refl, sym, ap, subst, ◌∙◌, append_assoc, arith}
+use Rattle.std.proofs.lemmas.Bool.{eqb-true, ne_eqb}
+use Rattle.uq_value.specs.Data.{Bytes, Data, null}
+use Rattle.uq_json.specs.Grammar.{Language, is_blank, Padded, IsMember}
 use Rattle.uq_json.specs.Strings.{IsString}
-use Rattle.uq_json.specs.Reading.{Read, ◌>>=◌, is_next, skip_blanks, padded, behind, string_at, scalar_at, bracketed_at, member_at, list_at, object_at, value_at, too_deep}
+use Rattle.uq_json.specs.Reading.{Read, ◌>>=◌, is_next, skip_blanks, padded, behind, string_at, member_at}
 use Rattle.uq_json.specs.declared.error.JsonFault.TheVariants.{NotJson, TooDeep}
-use Rattle.uq_json.proofs.Steps.{bind_ok, bind_err, chosen, if_true, if_false, Takes, no_ok}
-use Rattle.uq_json.proofs.Faults.{IsShallow, string_shallow, behind_shallow, then_shallow, ok_shallow, scalar_shallow}
+use Rattle.uq_json.proofs.Steps.{bind_ok, bind_err, chosen, Takes, no_ok}
+use Rattle.uq_json.proofs.Faults.{IsShallow, string_shallow, behind_shallow, then_shallow, ok_shallow}
 use Rattle.uq_json.proofs.Pieces.{string_takes, string_again}
-use Rattle.uq_json.proofs.Scalars.{NoDigit, scalar_takes, scalar_begins, scalar_again}
-use Rattle.uq_json.proofs.Deep.{IsOpening, Deep, Ends, blanks_of, blanks_split, are_blanks, skip_past, skip_none, skip_ends, skip_again, not_blank, opening_not_blank, ends_no_digit}
-use Rattle.uq_json.proofs.Listing.{IsClose, bracketed_take, bracketed_again, deep_bracketed}
+use Rattle.uq_json.proofs.Scalars.{NoDigit}
+use Rattle.uq_json.proofs.Deep.{Deep, Ends, blanks_of, blanks_split, are_blanks, skip_past, skip_none, skip_ends, skip_again, opening_not_blank, ends_no_digit}
 
 -- ---- blanks on both sides
 

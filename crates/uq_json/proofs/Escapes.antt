@@ -1,5 +1,5 @@
 -- Quoted bytes are a string that spells them.
-use Rattle.std.proofs.Common.{◌≡◌, ◌≢◌, ℕ, zero, suc, ◌<◌, ◌≤◌, ◌+◌, ◌*◌, ◌/◌, ◌%◌, Bool, true, false, cond, eqb, ltb, leb, ◌&&◌, List, [], ◌∷◌, ◌++◌, Some, refl, sym, ap, subst, ◌∙◌, append_assoc, arith}
+use Rattle.std.proofs.Common.{◌≡◌, ℕ, ◌<◌, ◌≤◌, ◌/◌, ◌%◌, Bool, true, false, cond, eqb, ltb, leb, ◌&&◌, List, [], ◌∷◌, ◌++◌, Some, refl, ap, ◌∙◌, append_assoc, arith}
 use Rattle.std.specs.List.{flat_map}
 use Rattle.std.specs.Char.{digit_value, digit_char}
 use Rattle.std.proofs.lemmas.Bool.{eqb-true, eqb-false, ltb-true, lt-ltb}
@@ -7,7 +7,7 @@ use Rattle.std.proofs.lemmas.Str.{digit_value-digit_char}
 use Rattle.std.proofs.lemmas.List.Concat.{flat_map-cons}
 use Rattle.uq_value.specs.Data.{Bytes}
 use Rattle.uq_json.specs.Quote.{hex_digit, escaped, escaped_control, quoted}
-use Rattle.uq_json.specs.Strings.{Piece, byte, code, IsPiece, itself, by_letter, by_number, letter, is_hex, are_hex, hex_number, Inside, is_high, is_low, pairs_with, pair, number_of, utf8, bytes_of, IsString}
+use Rattle.uq_json.specs.Strings.{Piece, byte, code, IsPiece, itself, by_letter, by_number, letter, is_hex, hex_number, Inside, is_high, is_low, pairs_with, pair, number_of, utf8, bytes_of, IsString}
 use Rattle.uq_json.proofs.Steps.{if_true, if_false}
 
 -- one piece, which means this byte whatever stands behind it

@@ -1,18 +1,18 @@
 -- Gathering the items of a list.
-use Rattle.std.proofs.Common.{◌≡◌, ◌≢◌, ℕ, zero, suc, ◌<◌, ◌≤◌, ◌+◌, ◌/◌, max, Bool, true, false, cond, eqb, ltb, ◌⊎◌, inl, inr, List, [], ◌∷◌, ◌++◌, length, take, drop, nat_eq, ◌-◌, Option, Some, None, option_map, Ok, Err, refl, sym, ap, subst, ◌∙◌, append_assoc, length-append, length-drop, append-nil, ◌&&◌, arith}
+use Rattle.std.proofs.Common.{◌≡◌, ℕ, zero, suc, ◌<◌, ◌≤◌, ◌+◌, ◌/◌, max, Bool, true, false, cond, eqb, ltb, ◌⊎◌, inl, inr, List, [], ◌∷◌, ◌++◌, length, take, drop, nat_eq, ◌-◌, Option, Some, None, option_map, Ok, Err, refl, sym, ap, subst, ◌∙◌, append_assoc, length-append, length-drop, ◌&&◌, arith}
 use Rattle.std.proofs.lemmas.Bool.{eqb-true, eq-eqb, ltb-true, lt-ltb}
-use Rattle.uq_value.specs.Data.{Bytes, Data, Datas, Pairs, Items, no_items, item, Members, no_members, member, null, text, items_of, list_of, members_of, pairs_of, list, object}
+use Rattle.uq_value.specs.Data.{Bytes, Data, Datas, Pairs, text, items_of, list_of, members_of, list, object}
 use Rattle.uq_value.specs.Size.{leb_within, leb_size, data_size, items_size, most_size, text_size}
 use Rattle.uq_value.specs.Depth.{data_depth, items_depth, members_depth, most_depth}
 use Rattle.uq_value.specs.Plain.{plain, size, depth}
 use Rattle.uq_value.specs.Put.{limited, with_member}
-use Rattle.uq_value.specs.Faults.{Refuses, TextFault}
+use Rattle.uq_value.specs.Faults.{Refuses}
 use Rattle.uq_value.specs.Slots.{Slots, Stands, KeptAs, Sets}
 use Rattle.uq_value.specs.declared.value.Value.{Value}
-use Rattle.uq_value.specs.declared.value.Value.TheVariants.{Text as Text', List as List'}
+use Rattle.uq_value.specs.declared.value.Value.TheVariants.{List as List'}
 use Rattle.uq_value.specs.declared.error.ValueFault.{ValueFault}
 use Rattle.uq_value.specs.declared.error.ValueFault.TheVariants as value
-use Rattle.uq_json.specs.Grammar.{Language, Padded, Listed, Bracketed, none, some, IsMember, merged, merged_behind, IsScalar, of_null, of_true, of_false, of_number, of_string, IsValue, of_scalar, of_list, of_object, Spells}
+use Rattle.uq_json.specs.Grammar.{Language, Listed, none, some, IsMember, merged, merged_behind, IsScalar, of_null, of_true, of_false, of_number, of_string, IsValue, of_scalar, of_list, of_object, Spells}
 use Rattle.uq_json.specs.Found.{StandsFor, ListStandsFor, SlotsStandFor}
 use Rattle.std.specs.List.{starts_with}
 use lib.Pointwise.{pointwise}
@@ -22,8 +22,8 @@ use Rattle.uq_json.proofs.Decoding.{tail_whole}
 use Rattle.uq_json.specs.Reading.{Read, ◌>>=◌, Fails, is_next, skip_blanks, padded, inside_at, string_at, string_data_at, scalar_at, behind, bracketed_at, member_at, list_at, object_at, value_within, literal, separator_at, others_at, listed_within, element_at}
 use Rattle.uq_json.specs.declared.error.JsonFault.{JsonFault}
 use Rattle.uq_json.specs.declared.error.JsonFault.TheVariants as fault
-use Rattle.uq_json.proofs.Steps.{chosen, if_true, if_false, Takes, no_longer}
-use Rattle.uq_json.proofs.Parts.{list_and_back, pairs_and_back}
+use Rattle.uq_json.proofs.Steps.{if_true, if_false, Takes, no_longer}
+use Rattle.uq_json.proofs.Parts.{list_and_back}
 use Rattle.uq_json.proofs.Elements.{with_value, member_take}
 use Rattle.uq_json.proofs.Rooms.{known, object_takes, element_takes}
 

@@ -1,11 +1,11 @@
 -- The parts of a list or object by their places, and their texts.
-use Rattle.std.proofs.Common.{◌≡◌, ℕ, zero, suc, ◌<◌, ◌≤◌, ◌+◌, max, List, [], ◌∷◌, ◌++◌, length, drop, get_or, slice_get, Option, Some, None, refl, sym, ap, subst, ◌∙◌, append_assoc, append-nil, add-one, arith}
+use Rattle.std.proofs.Common.{◌≡◌, ℕ, zero, suc, ◌<◌, ◌≤◌, ◌+◌, List, [], ◌∷◌, ◌++◌, length, drop, get_or, slice_get, Option, Some, None, refl, sym, ap, subst, ◌∙◌, append_assoc, append-nil, add-one, arith}
 use Rattle.std.proofs.Math.Seq.{drop-cons, drop-length}
 use Rattle.uq_value.specs.Data.{Bytes, Data, Datas, Pairs, Items, no_items, item, Members, no_members, member, null, boolean, whole, text, sequence, mapping, items_of, list_of, members_of, pairs_of, list, object, names_of, IsDistinct}
 use Rattle.uq_value.specs.Depth.{data_depth, items_depth, members_depth}
 use Rattle.uq_value.specs.Plain.{plain, value_of, items, members}
 use Rattle.uq_value.specs.declared.value.Value.{Value}
-use Rattle.uq_json.specs.Printable.{IsPrintable, ItemsArePrintable, MembersArePrintable}
+use Rattle.uq_json.specs.Printable.{IsPrintable, MembersArePrintable}
 use Rattle.uq_json.specs.Printing.{comma_before, item_text, member_text, IsPrintableAt, MemberIsPrintableAt}
 use Rattle.uq_json.specs.Quote.{quoted}
 use Rattle.uq_json.specs.Text.{json, item_texts, member_texts, comma_separated, behind_others, bracketed}

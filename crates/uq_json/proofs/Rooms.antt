@@ -1,12 +1,11 @@
 -- Reading values of at most so many levels, by induction on the levels.
-use Rattle.std.proofs.Common.{◌≡◌, ◌≢◌, ℕ, zero, suc, ◌<◌, ◌≤◌, ◌+◌, Bool, true, false, cond, eqb, ◌⊎◌, inl, inr, List, [], ◌∷◌, ◌++◌, length, drop, Ok, Err, refl, sym, ap, subst, ◌∙◌, append_assoc, codes, arith}
-use Rattle.std.proofs.lemmas.Bool.{eqb-true, eqb-false, eq-eqb, ne_eqb}
+use Rattle.std.proofs.Common.{◌≡◌, ◌≢◌, ℕ, zero, suc, false, cond, eqb, ◌⊎◌, inl, inr, List, [], ◌∷◌, ◌++◌, Ok, Err, refl, sym, ap, subst, ◌∙◌, codes, arith}
+use Rattle.std.proofs.lemmas.Bool.{eqb-true, ne_eqb}
 use Rattle.uq_value.specs.Data.{Bytes, Data, Datas, Pairs, null, list, object}
-use Rattle.uq_json.specs.Grammar.{Language, is_blank, AreBlanks, Padded, Listed, Bracketed, none, some, IsMember, merged, IsScalar, of_null, IsValue, of_scalar, of_list, of_object, Spells}
-use Rattle.uq_json.specs.Reading.{Read, ◌>>=◌, is_next, skip_blanks, padded, behind, string_at, scalar_at, others_at, listed_within, bracketed_at, member_at, list_at, object_at, value_at, too_deep, element_at}
-use Rattle.uq_json.specs.declared.error.JsonFault.{JsonFault}
+use Rattle.uq_json.specs.Grammar.{Language, is_blank, Listed, Bracketed, none, some, IsMember, merged, IsScalar, of_null, IsValue, of_scalar, of_list, of_object, Spells}
+use Rattle.uq_json.specs.Reading.{Read, ◌>>=◌, is_next, skip_blanks, scalar_at, bracketed_at, member_at, list_at, object_at, value_at, too_deep, element_at}
 use Rattle.uq_json.specs.declared.error.JsonFault.TheVariants.{NotJson, TooDeep}
-use Rattle.uq_json.proofs.Steps.{bind_ok, bind_err, chosen, if_true, if_false, Takes, no_ok}
+use Rattle.uq_json.proofs.Steps.{bind_ok, bind_err, chosen, if_false, Takes, no_ok}
 use Rattle.uq_json.proofs.Faults.{scalar_shallow, ok_shallow, no_json_shallow}
 use Rattle.uq_json.proofs.Scalars.{NoDigit, scalar_takes, scalar_begins, scalar_again}
 use Rattle.uq_json.proofs.Deep.{Deep, Ends, not_blank}

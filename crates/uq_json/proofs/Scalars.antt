@@ -1,13 +1,12 @@
 -- Reading numbers, literals and all values without parts.
-use Rattle.std.proofs.Common.{◌≡◌, ◌≢◌, ℕ, zero, suc, ◌<◌, ◌≤◌, ◌+◌, Bool, true, false, cond, eqb, leb, ltb, ◌&&◌, not, ◌⊎◌, inl, inr, List, [], ◌∷◌, ◌++◌, length, Option, Some, None, Ok, Err, refl, sym, ap, subst, ◌∙◌, append_assoc, ℤ, codes, arith}
+use Rattle.std.proofs.Common.{◌≡◌, ◌≢◌, ℕ, ◌<◌, ◌≤◌, Bool, true, false, cond, eqb, ◌&&◌, ◌⊎◌, inl, inr, [], ◌∷◌, ◌++◌, Option, Some, None, Ok, Err, refl, sym, ap, subst, ◌∙◌, ℤ, codes, arith}
 use Rattle.std.specs.Char.{is_ascii_digit}
 use Rattle.std.specs.List.{list_all}
-use Rattle.std.proofs.lemmas.Bool.{eqb-true, eqb-false, eq-eqb, ne_eqb, leb-true, le-leb}
+use Rattle.std.proofs.lemmas.Bool.{eqb-true, eq-eqb, ne_eqb}
 use Rattle.std.proofs.lemmas.Bool.Decides.{nat_tests}
 use Rattle.uq_value.specs.Data.{Bytes, Data, null, boolean, whole, text}
 use Rattle.uq_value.specs.Number.{digits_value, positive, negative}
-use Rattle.uq_json.specs.Grammar.{Language, is_blank, has_no_leading_zero, IsNatural, IsNumber, plain, minus, IsScalar, of_null, of_true, of_false, of_number, of_string}
-use Rattle.uq_json.specs.Strings.{IsString}
+use Rattle.uq_json.specs.Grammar.{has_no_leading_zero, IsNatural, IsNumber, plain, minus, IsScalar, of_null, of_true, of_false, of_number, of_string}
 use Rattle.uq_json.specs.Reading.{Read, ◌>>=◌, literal, digits_of, behind_digits, natural, number_or_fault, number_at, inside_at, string_at, scalar_at}
 use Rattle.uq_json.specs.declared.error.JsonFault.TheVariants.{NotJson}
 use Rattle.uq_json.proofs.Steps.{bind_ok, chosen, if_true, if_false, Takes, no_ok}

@@ -1,10 +1,10 @@
 -- The bytes that stand for themselves in a string.
-use Rattle.std.proofs.Common.{◌≡◌, ◌≢◌, ℕ, ◌≤◌, ◌<◌, ◌+◌, Bool, true, false, take, drop, get_or, ◌-◌, cond, not, eqb, leb, ltb, ◌&&◌, List, [], ◌∷◌, ◌++◌, length, map, zero, suc, Option, Some, None, Ok, Err, subst, refl, sym, ap, ◌∙◌, append_assoc, append-nil, arith}
+use Rattle.std.proofs.Common.{◌≡◌, ◌≢◌, ℕ, ◌≤◌, ◌<◌, Bool, true, false, take, drop, get_or, ◌-◌, cond, not, eqb, leb, ltb, ◌&&◌, List, [], ◌∷◌, ◌++◌, length, map, zero, suc, Option, Some, None, Ok, Err, subst, refl, sym, ap, ◌∙◌, append_assoc, append-nil, arith}
 use Rattle.std.specs.List.{flat_map}
 use Rattle.std.proofs.lemmas.Bool.{eqb-false, ne_eqb, leb-true}
 use Rattle.std.proofs.lemmas.List.Concat.{flat_map-cons}
 use Rattle.uq_value.specs.Data.{Bytes}
-use Rattle.uq_json.specs.Quote.{escaped, quoted}
+use Rattle.uq_json.specs.Quote.{escaped}
 use Rattle.uq_json.specs.Strings.{Piece, byte, IsPlain, itself, bytes_of, utf8}
 use Rattle.uq_json.specs.Decoding.{bytes_behind, waiting_bytes, decoded}
 use Rattle.uq_json.proofs.Steps.{if_false}

@@ -1,5 +1,5 @@
 -- A string that is the whole text.
-use Rattle.std.proofs.Common.{◌≡◌, ℕ, ◌<◌, [], ◌∷◌, ◌++◌, length, Ok, Err, refl, sym, ap, subst, ◌∙◌, append-nil, true, false, eqb, arith}
+use Rattle.std.proofs.Common.{◌≡◌, ℕ, ◌<◌, [], ◌∷◌, length, Ok, Err, sym, ap, subst, ◌∙◌, append-nil, arith}
 use Rattle.uq_value.specs.Data.{Bytes}
 use Rattle.uq_json.specs.Strings.{IsString}
 use Rattle.uq_json.specs.Answer.{AnswersString}

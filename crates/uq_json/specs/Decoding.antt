@@ -1,5 +1,5 @@
 -- The bytes of pieces, one piece after the other.
-use Rattle.std.specs.Prelude.{◌≡◌, [], ◌∷◌, ◌++◌, List, Option, Some, None, ℕ, Ok, Err}
+use Rattle.std.specs.Prelude.{[], ◌∷◌, ◌++◌, List, Option, Some, None, ℕ, Ok}
 use Rattle.uq_value.specs.Data.{Bytes}
 use Rattle.uq_json.specs.Strings.{Piece, byte, code, bytes_of, utf8}
 use Rattle.uq_json.specs.Reading.{Read, ◌>>=◌}

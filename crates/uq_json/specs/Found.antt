@@ -1,5 +1,5 @@
 -- A value of the text, which is left out where it is too large.
-use Rattle.std.specs.Prelude.{◌≡◌, ◌<◌, ◌≤◌, ◌∷◌, [], ◌++◌, Option, Some, None, Result, Ok, Err}
+use Rattle.std.specs.Prelude.{◌≡◌, ◌<◌, ◌≤◌, Option, Some, None, Result, Ok, Err}
 use Rattle.std.specs.Borrow.{Bor}
 use Rattle.uq_value.specs.Data.{Bytes, Data, Datas, Pairs, list}
 use Rattle.uq_value.specs.Slots.{Slots, Stands}

@@ -1,6 +1,6 @@
 -- What every value keeps: whole numbers have 64 bits with a sign, and no object within has a name twice.
-use Rattle.std.specs.Prelude.{ℕ, zero, suc, ◌<◌, ◌^◌, ℤ, pos, negsuc, List, [], ◌∷◌}
-use Rattle.uq_value.specs.Data.{Bytes, Data, null, boolean, whole, text, sequence, mapping, Items, no_items, item, Members, no_members, member, IsDistinct, names_of, pairs_of}
+use Rattle.std.specs.Prelude.{◌<◌, ◌^◌, ℤ, pos, negsuc}
+use Rattle.uq_value.specs.Data.{Data, null, boolean, whole, text, sequence, mapping, Items, no_items, item, Members, no_members, member, IsDistinct, names_of, pairs_of}
 
 abbrev pub Fits64 : ℤ → Type 0
 Fits64 (pos n) = n < 2 ^ 63

@@ -1,6 +1,6 @@
 -- Printing the parts of a list or an object, one after the other.
-use Rattle.std.specs.Prelude.{ℕ, zero, suc, List, [], ◌∷◌, ◌++◌, slice_index_or}
-use Rattle.uq_value.specs.Data.{Bytes, Data, Datas, Pairs, null, items_of, members_of}
+use Rattle.std.specs.Prelude.{ℕ, zero, suc, [], ◌∷◌, slice_index_or}
+use Rattle.uq_value.specs.Data.{Bytes, Datas, Pairs, null, items_of, members_of}
 use Rattle.uq_json.specs.Printable.{IsPrintable}
 use Rattle.uq_json.specs.Text.{item_texts, member_texts}
 

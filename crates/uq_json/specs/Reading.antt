@@ -1,7 +1,7 @@
 -- Reading from the left: what is read and the bytes behind it, or the fault at which reading stops.
-use Rattle.std.specs.Prelude.{◌≡◌, ℕ, zero, suc, ◌+◌, ℤ, Bool, true, false, ◌==◌, nat_le, not, ◌&&◌, if◌then◌else◌, List, [], ◌∷◌, ◌++◌, length, drop, Option, Some, None, Result, Ok, Err, codes}
+use Rattle.std.specs.Prelude.{◌≡◌, ℕ, zero, suc, ℤ, Bool, true, false, ◌==◌, nat_le, not, ◌&&◌, if◌then◌else◌, List, [], ◌∷◌, length, drop, Option, Some, None, Result, Ok, Err, codes}
 use Rattle.std.specs.Char.{is_ascii_digit}
-use Rattle.uq_value.specs.Data.{Bytes, Data, Pairs, null, boolean, whole, text, list, object}
+use Rattle.uq_value.specs.Data.{Bytes, Data, null, boolean, whole, text, list, object}
 use Rattle.uq_value.specs.Number.{digits_value, positive, negative}
 use Rattle.uq_json.specs.Strings.{Piece, byte, code, letter, are_hex, hex_number, bytes_of}
 use Rattle.uq_json.specs.Grammar.{is_blank, has_no_leading_zero, merged}

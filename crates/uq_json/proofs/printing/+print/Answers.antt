@@ -1,10 +1,7 @@
-use Rattle.std.proofs.Common.{◌≡◌, ◌≤◌, ◌<◌, ◌++◌, ◌∷◌, [], refl, sym, ap, ◌∙◌, append_assoc, below_more, length, arith, ◌+◌, ℕ, cond, is_ok}
+use Rattle.std.proofs.Common.{◌<◌, ◌++◌, ◌∷◌, [], below_more, length, arith}
 use Rattle.std.proofs.lemmas.Result.{on_ok_weaker}
-use Rattle.uq_value.specs.Data.{Bytes, items_of, members_of}
-use Rattle.uq_json.specs.Printing.{comma_before, IsPrintableAt, MemberIsPrintableAt}
-use Rattle.uq_json.specs.Quote.{quoted}
-use Rattle.uq_json.specs.Text.{item_texts, member_texts, json}
-use Rattle.uq_value.specs.Plain.{plain}
+use Rattle.uq_value.specs.Data.{items_of, members_of}
+use Rattle.uq_json.specs.Text.{item_texts, member_texts}
 use Rattle.uq_json.proofs.Parts.{item_there, item_not_there, member_there, member_not_there, printed_goes_on, printed_ends, items_count, members_count, items_printable, object_printable, piece_text, pair_text, printable_at, pair_printable_at}
 use Rattle.uq_json.proofs.printing.+print.Goals as goal
 

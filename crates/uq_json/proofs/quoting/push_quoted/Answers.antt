@@ -1,8 +1,8 @@
-use Rattle.std.proofs.Common.{◌≡◌, ◌∷◌, ◌++◌, [], ap, ◌∙◌, append_assoc, slice_index_or, length, arith}
+use Rattle.std.proofs.Common.{◌∷◌, ◌++◌, [], ap, ◌∙◌, append_assoc}
 use Rattle.std.specs.List.{flat_map}
 use Rattle.uq_json.specs.Quote.{escaped}
 use Rattle.uq_value.specs.Data.{Bytes}
-use Rattle.uq_json.proofs.Verbatim.{behind_no_longer, rest_shorter, escapes_go_on, escapes_end}
+use Rattle.uq_json.proofs.Verbatim.{rest_shorter, escapes_go_on, escapes_end}
 use Rattle.uq_json.proofs.quoting.push_quoted.Goals as goal
 
 pub returns-in_default : goal.returns-in_default

@@ -1,4 +1,4 @@
-use Rattle.std.proofs.Common.{◌≡◌, Bool, sym, ap, ◌∙◌, Ok, suc, length}
+use Rattle.std.proofs.Common.{Bool, sym, ap, ◌∙◌, Ok, suc, length}
 use Rattle.std.proofs.lemmas.Result.{err_from_is_err_and}
 use Rattle.uq_json.specs.Found.{ListStandsFor, SlotsStandFor}
 use Rattle.uq_json.specs.Reading.{Read, listed_within, member_at, element_at}

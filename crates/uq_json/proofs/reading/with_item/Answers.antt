@@ -1,4 +1,4 @@
-use Rattle.std.proofs.Common.{◌≡◌, ◌<◌, Option, Some, None, inl, inr, ◌++◌, ◌∷◌, [], refl, subst, sym, ◌∙◌, ap}
+use Rattle.std.proofs.Common.{◌≡◌, ◌<◌, Option, None, inl, inr, ◌++◌, ◌∷◌, [], subst, sym}
 use Rattle.std.specs.Option.{IfSome}
 use Rattle.uq_value.specs.Data.{Data, Datas}
 use Rattle.uq_value.specs.Depth.{most_depth}

@@ -1,4 +1,4 @@
-use Rattle.std.proofs.Common.{ℕ, sym, ◌∙◌, ◌<◌, arith, Vec, Global, length}
+use Rattle.std.proofs.Common.{ℕ, sym, ◌∙◌, Vec, Global, length}
 use Rattle.std.proofs.lemmas.Bool.{eqb-true, eqb-false}
 use Rattle.std.proofs.lemmas.Result.{err_from_is_err_and}
 use Rattle.uq_json.proofs.Wholes.{string_whole, string_with_rest, string_fails, not_none}
