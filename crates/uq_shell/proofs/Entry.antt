@@ -1,11 +1,8 @@
 -- What a run leaves of the store at entry.
-use Rattle.std.proofs.Common.{◌≡◌, ℕ, zero, suc, List, [], ◌∷◌, take, Option, Some, None, refl, sym, ◌∙◌}
-use Rattle.std.specs.FinMap as map
+use Rattle.std.proofs.Common.{◌≡◌, sym, ◌∙◌}
 use Rattle.uq_outside.specs.declared.disk.Disk as disk
 use Rattle.uq_shell.specs.Store.{Store}
-use Rattle.uq_shell.specs.Command.{Request, FetchKey, BadCommand, UnknownCommand, Out, answer, fetched}
 use Rattle.uq_shell.specs.Database.{Holds, IsSettled, IsStill}
-use Rattle.uq_shell.specs.Run.{last_commit}
 
 -- the same content holds the same store
 pub still_holds : {D : Type 0} (g : disk.Ghosts D) (old new : D) (store : Store) → g.content new ≡ g.content old → Holds g old store → Holds g new store

@@ -17,7 +17,7 @@ use Rattle.uq_page.specs.MemPages.{pages_in}
 use Rattle.uq_outside.specs.Written.{written}
 use Rattle.uq_page.specs.declared.header.Header.{Header}
 use Rattle.uq_shell.specs.Store.{Store}
-use Rattle.uq_shell.specs.Database.{Holds, HoldsStore, HoldEntries, IsDatabase, IsDurable, IsSettled, IsEmpty, IsTwoPages}
+use Rattle.uq_shell.specs.Database.{Holds, HoldsStore, HoldEntries, IsDatabase, IsDurable, IsSettled, IsTwoPages}
 use Rattle.uq_shell.specs.Keeps.{Keeps, with_pages}
 use Rattle.uq_shell.specs.declared.database.Database.{Database}
 

@@ -1,5 +1,5 @@
 -- A database in memory, and what calls on its map do.
-use Rattle.std.proofs.Common.{◌≡◌, ℕ, ◌+◌, ◌≤◌, ◌<◌, Bool, true, false, List, [], ◌∷◌, ◌++◌, length, Option, Some, None, refl, sym, ap, subst, ◌∙◌, arith}
+use Rattle.std.proofs.Common.{◌≡◌, ℕ, ◌+◌, ◌≤◌, Bool, true, false, List, [], ◌∷◌, length, Option, Some, refl, sym, ap, subst, ◌∙◌, arith}
 use Rattle.std.proofs.lemmas.Bool.{leb-true, leb-false, le-ltb, lt-ltb}
 use Rattle.std.specs.Prelude.{nat_le, nat_lt, ◌||◌, slice_set, sum_by, Result, Ok, Err, OnOk}
 use Rattle.std.specs.Option.{ForSome, option_map}
@@ -13,10 +13,10 @@ use Rattle.uq_page.specs.MemPages.{pages_in, told}
 use Rattle.uq_hash.specs.Map.{Map, HoldsMap, WhereHeld, ChangesPage, IsCreated, bucket_page, cells_len}
 use Rattle.uq_shell.specs.Store.{Store, written, room}
 use Rattle.uq_shell.specs.Command.{is_full}
-use Rattle.uq_shell.specs.Database.{HoldEntries, IsStoredAs, stored_key}
+use Rattle.uq_shell.specs.Database.{HoldEntries, stored_key}
 use Rattle.uq_shell.specs.Keeps.{Keeps, WritesHead}
 use Rattle.uq_shell.specs.declared.database.Database.{Database}
-use Rattle.uq_shell.proofs.Stored.{get-stored, insert-stored, room-stored, entries-empty, empty-stored}
+use Rattle.uq_shell.proofs.Stored.{insert-stored, room-stored, entries-empty, empty-stored}
 
 -- the map of a database that keeps a store
 pub kept : (database : Database) (store : Store) (keeps : Keeps database store) → HoldsMap (pages_in database.pages) database.header keeps.hold.stored

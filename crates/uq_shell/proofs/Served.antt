@@ -10,7 +10,7 @@ use Rattle.uq_outside.specs.Streams.{Grows}
 use Rattle.uq_shell.specs.Store.{Store, Session, opened}
 use Rattle.uq_shell.specs.Line.{last_byte, line_after}
 use Rattle.uq_json.specs.Quote.{quoted}
-use Rattle.uq_shell.specs.Command.{Answer, Event, Out, Commit, FetchKey, StoreKey, answer, fetched}
+use Rattle.uq_shell.specs.Command.{Answer, Event, Out, Commit, FetchKey, answer}
 use Rattle.uq_shell.specs.Keeps.{Keeps}
 use Rattle.uq_shell.specs.Followed.{EndsInLine, is_unanswered, ending_of, line_behind}
 use Rattle.uq_shell.specs.Headline.{IsCommitUnderWay, Meets, is_whole}

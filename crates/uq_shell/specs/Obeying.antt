@@ -1,5 +1,5 @@
 -- How a command is obeyed: its reply and the database after it, and then the run to its end.
-use Rattle.std.specs.Prelude.{◌≡◌, ◌⊎◌, ℕ, ◌≤◌, true, List, [], ◌∷◌, length, take, Option, Some}
+use Rattle.std.specs.Prelude.{◌≡◌, ℕ, ◌≤◌, true, List, [], ◌∷◌, length, take, Option, Some}
 use Rattle.uq_outside.specs.declared.disk.Disk.{Ghosts}
 use Rattle.uq_shell.specs.Store.{Store}
 use Rattle.uq_shell.specs.Line.{last_byte}

@@ -1,5 +1,5 @@
 -- A reply of the code, as what its command means.
-use Rattle.std.specs.Prelude.{◌≡◌, ℕ, Bool, true, false, List, [], ◌∷◌, ◌++◌, None, codes}
+use Rattle.std.specs.Prelude.{ℕ, Bool, true, false, List, None, codes}
 use Rattle.uq_shell.specs.Line.{line_after}
 use Rattle.uq_shell.specs.declared.reply.Reply.{Reply}
 use Rattle.uq_shell.specs.declared.reply.Reply.TheVariants as reply

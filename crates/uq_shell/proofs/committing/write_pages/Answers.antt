@@ -1,5 +1,4 @@
-use Rattle.std.proofs.Common.{◌≡◌, ap, ◌∙◌}
-use Rattle.uq_shell.proofs.Files.{two_writes, written_twice}
+use Rattle.uq_shell.proofs.Files.{written_twice}
 use Rattle.uq_shell.proofs.committing.write_pages.Goals as goal
 
 pub returns-clause-written : goal.returns-clause-written

@@ -1,4 +1,4 @@
-use Rattle.std.proofs.Common.{◌≡◌, None, sym, subst, ◌∙◌}
+use Rattle.std.proofs.Common.{None, sym, subst, ◌∙◌}
 use Rattle.uq_shell.specs.Store.{opened}
 use Rattle.uq_shell.specs.Command.{FetchKey, answer}
 use Rattle.uq_shell.specs.Obeying.{Answers}

@@ -1,5 +1,4 @@
-use Rattle.std.proofs.Common.{◌≡◌, [], drop, map, string_bytes, None, inr, refl}
-use Rattle.uq_shell.specs.Command.{request}
+use Rattle.std.proofs.Common.{[], map, string_bytes, inr, refl}
 use Rattle.uq_shell.specs.Request.{request_of}
 use Rattle.uq_shell.specs.Run.{run_of}
 use Rattle.uq_shell.specs.declared.status.Status.TheVariants.{Usage, Disk, NotDatabase, Memory}

@@ -1,5 +1,4 @@
-use Rattle.std.proofs.Common.{◌≡◌, ap, ◌∙◌, refl}
-use Rattle.std.specs.Option.{option_map}
+use Rattle.std.proofs.Common.{ap, ◌∙◌, refl}
 use Rattle.std.specs.FinMap as map
 use Rattle.uq_shell.proofs.Kept.{of_kept, keeps_still}
 use Rattle.uq_shell.proofs.Stored.{get-stored}

@@ -1,6 +1,5 @@
-use Rattle.std.proofs.Common.{◌≡◌, Bool, true, false, Err, ap, sym, refl, subst, ◌∙◌, ◌≤◌, length, arith}
+use Rattle.std.proofs.Common.{◌≡◌, Err, ap, sym, refl, subst, ◌∙◌, arith}
 use Rattle.std.proofs.lemmas.Bool.{leb-true}
-use Rattle.uq_page.specs.declared.error.ChainFault.TheVariants as chain
 use Rattle.uq_hash.specs.Map.{WhereHeld}
 use Rattle.uq_shell.specs.declared.fault.StoreFault.TheVariants.{Corrupt}
 use Rattle.uq_shell.proofs.Files.{on_ok, on_ok_map}
