@@ -1,14 +1,15 @@
 use crate::{Ended, Status, run};
 use std::alloc::{AllocError, Global};
+use std::fs;
 use std::process::Abort;
 use std::test::Fail;
-use uq_outside::{FileNo, MemDisk, MemSink, SureSource};
+use uq_outside::{Disk, FileDisk, FileNo, MemDisk, MemSink, SureSource};
 
 /// Runs words over a disk, into a sink, with no input.
-fn obey(
+fn obey<D: Disk>(
     alloc: Global,
     words: &[&str],
-    disk: &mut MemDisk,
+    disk: &mut D,
     out: &mut MemSink,
 ) -> Result<Ended, AllocError> {
     let mut list = Vec::new(alloc);
@@ -293,5 +294,27 @@ fn other_files_are_no_database(rt: HostRuntime) -> Result<(), Fail> {
         assert_eq!(rt; out.written(), b"not a database\n".as_slice());
         assert_eq!(rt; end, ended(Status::NotDatabase, 0));
     }
+    Ok(())
+}
+
+#[test]
+fn the_first_word_names_the_files(rt: HostRuntime) -> Result<(), Fail> {
+    let _ = fs::remove_dir_all(&rt, "uq_shell_test");
+    fs::create_dir(&rt, "uq_shell_test")?;
+    let runs: [(&[&str], &[u8]); 4] = [
+        (&["uq_shell_test/a.db", "store", "k", "1"], b"ok\n"),
+        (&["uq_shell_test/b.db", "fetch", "k"], b"not found\n"),
+        (&["uq_shell_test/b.db", "store", "k", "2"], b"ok\n"),
+        (&["uq_shell_test/a.db", "fetch", "k"], b"\"1\"\n"),
+    ];
+    for (words, bytes) in runs {
+        let mut out = MemSink::new(rt.alloc(), &[])?;
+        obey(rt.alloc(), words, &mut FileDisk::new(&rt), &mut out)?;
+        assert_eq!(rt; out.written(), bytes, "{words:?}");
+    }
+    for name in ["uq_shell_test/a.db", "uq_shell_test/b.db"] {
+        assert_eq!(rt; fs::read(&rt, name)?.len(), 8192, "{name}");
+    }
+    fs::remove_dir_all(&rt, "uq_shell_test")?;
     Ok(())
 }
