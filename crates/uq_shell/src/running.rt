@@ -39,6 +39,7 @@ pub fn run<D: Disk, I: Source, O: Sink>(
     ensures usage { (result.status ≡ Status.Usage) ↔ IsTrue (is_usage (map string_bytes words.now)) }
     ensures untouched { result.status ≡ Status.Usage → disk.new ≡ disk.old }
     ensures still { result.done ≡ 0 → IsStill D.Disk disk.old disk.new }
+    ensures refused { result.status ≡ Status.NotDatabase → IsStill D.Disk disk.old disk.new }
     ensures reads { asks_write (request (drop 1 (map string_bytes words.now))) ≡ false → IsStill D.Disk disk.old disk.new }
     ensures unread { input.new ≡ input.old }
     ensures counts { (D.faults disk.old ≤ D.faults disk.new) × (O.faults out.old ≤ O.faults out.new) }
@@ -77,6 +78,7 @@ fn obey<D: Disk, O: Sink>(
     ensures durable { (store : Store) → Keeps database store → IsCommitted (obeyed (answer (request_of command.entry) None (opened store))).events result.done → IsDurable D.Disk disk.new }
     ensures settled { (store : Store) → Keeps database store → IsSettled D.Disk disk.old → (IsCommitUnderWay (obeyed (answer (request_of command.entry) None (opened store))).events result.done → ⊥) → IsSettled D.Disk disk.new }
     ensures still { result.done ≡ 0 → disk.new ≡ disk.old }
+    ensures refused { result.status ≡ Status.NotDatabase → disk.new ≡ disk.old }
     ensures reads { asks_write (request_of command.entry) ≡ false → disk.new ≡ disk.old }
     ensures line { EndsInLine result.status (Rose (O.faults out.old) (O.faults out.new)) (O.written out.old) (O.written out.new) }
     ensures counts { (D.faults disk.old ≤ D.faults disk.new) × (O.faults out.old ≤ O.faults out.new) }
