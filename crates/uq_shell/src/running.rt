@@ -40,6 +40,7 @@ pub fn run<D: Disk, I: Source, O: Sink>(
     ensures untouched { result.status ≡ Status.Usage → disk.new ≡ disk.old }
     ensures still { result.done ≡ 0 → IsStill D.Disk disk.old disk.new }
     ensures refused { result.status ≡ Status.NotDatabase → IsStill D.Disk disk.old disk.new }
+    ensures foreign { (ForSome (D.content disk.old) HaveShape → ⊥) → IsStill D.Disk disk.old disk.new }
     ensures reads { asks_write (request (drop 1 (map string_bytes words.now))) ≡ false → IsStill D.Disk disk.old disk.new }
     ensures unread { input.new ≡ input.old }
     ensures counts { (D.faults disk.old ≤ D.faults disk.new) × (O.faults out.old ≤ O.faults out.new) }
