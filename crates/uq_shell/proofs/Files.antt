@@ -14,7 +14,7 @@ use Rattle.uq_outside.specs.declared.fault.FileNo.TheVariants.{Main, Journal}
 use Rattle.uq_page.specs.declared.page.Page.{Page}
 use Rattle.uq_page.specs.Page.{bytes_of}
 use Rattle.uq_page.specs.MemPages.{pages_in}
-use Rattle.uq_outside.specs.Written.{written}
+use Rattle.uq_facts.specs.Written.{written}
 use Rattle.uq_page.specs.declared.header.Header.{Header}
 use Rattle.uq_shell.specs.Store.{Store}
 use Rattle.uq_shell.specs.Database.{Holds, HoldsStore, HoldEntries, IsDatabase, IsDurable, IsSettled, IsTwoPages}
@@ -149,7 +149,7 @@ taken_in database store header head bucket is pages entries =
     record { head = head; bucket = bucket; pages = pages; hold = subst (λ h. HoldEntries store h head bucket) same entries }
 
 -- a disk whose main file was synced
-pub synced : {D E : Type 0} (g : disk.Ghosts D) (result : Result (Unit {0}) E) (old new : D) → g.content new ≡ g.content old → OnOk result (ForSome (g.content old) (λ files. Only (KeepsFile Main files) (g.may_leave new))) → OnOk result (IsDurable g new)
+pub synced : {D E : Type 0} (g : disk.Ghosts D) (result : Result (Unit {0}) E) (old new : D) → OnOk result (g.content new ≡ g.content old) → OnOk result (ForSome (g.content old) (λ files. Only (KeepsFile Main files) (g.may_leave new))) → OnOk result (IsDurable g new)
 synced g (Err fault) old new same durable = tt
 synced g (Ok done) old new same durable = λ files told left leaves. durable files (sym same ∙ told) left leaves
 
@@ -161,7 +161,7 @@ told_before None change files is = cc
 told_before (Some x) change files is = (x, refl, cc)
 
 -- Nothing is pending behind the sync of what was written to the main file, where nothing was pending before.
-pub settled_again : {D E : Type 0} (g : disk.Ghosts D) (result : Result (Unit {0}) E) (old mid new : D) (change : Files → Files) → ((files : Files) → (change files).journal ≡ files.journal) → g.content mid ≡ option_map change (g.content old) → Follows (KeepsFile Journal) (g.may_leave old) (g.may_leave mid) → g.content new ≡ g.content mid → Only (g.may_leave mid) (g.may_leave new) → OnOk result (ForSome (g.content mid) (λ files. Only (KeepsFile Main files) (g.may_leave new))) → OnOk result (IsSettled g old → IsSettled g new)
+pub settled_again : {D E : Type 0} (g : disk.Ghosts D) (result : Result (Unit {0}) E) (old mid new : D) (change : Files → Files) → ((files : Files) → (change files).journal ≡ files.journal) → g.content mid ≡ option_map change (g.content old) → Follows (KeepsFile Journal) (g.may_leave old) (g.may_leave mid) → OnOk result (g.content new ≡ g.content mid) → Only (g.may_leave mid) (g.may_leave new) → OnOk result (ForSome (g.content mid) (λ files. Only (KeepsFile Main files) (g.may_leave new))) → OnOk result (IsSettled g old → IsSettled g new)
 settled_again g (Err fault) old mid new change other written journal same stop durable = tt
 settled_again g (Ok done) old mid new change other written journal same stop durable = λ settled files told left leaves.
     let told_mid : g.content mid ≡ Some files = sym same ∙ told in

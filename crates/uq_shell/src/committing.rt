@@ -3,7 +3,7 @@ ghost use Rattle.std.specs.Prelude.{◌≡◌, ◌⊎◌, length, OnOk, IfErr};
 ghost use Rattle.std.specs.Option.{option_map};
 ghost use Rattle.uq_page.specs.Page.{bytes_of};
 ghost use Rattle.uq_outside.specs.declared.fault.DiskCall.{DiskCall};
-ghost use Rattle.uq_outside.specs.Causes.{HasCause};
+ghost use Rattle.uq_facts.specs.Causes.{HasCause};
 ghost use Rattle.uq_outside.specs.Files.{Keeps as KeepsFile};
 ghost use Rattle.uq_outside.specs.Stops.{Follows};
 ghost use Rattle.uq_shell.specs.Store.{Store};

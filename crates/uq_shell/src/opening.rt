@@ -2,7 +2,7 @@
 ghost use Rattle.std.specs.Prelude.{◌≡◌, ◌+◌, ◌≤◌, ◌∷◌, [], ℕ, true, false, length, take, drop, OnOk, IfOk, IfErr, IfSome, Err};
 ghost use Rattle.std.specs.Option.{ForSome};
 ghost use Rattle.std.specs.FinMap.{empty};
-ghost use Rattle.uq_outside.specs.Causes.{Rose, HasCause};
+ghost use Rattle.uq_facts.specs.Causes.{Rose, HasCause};
 ghost use Rattle.uq_outside.specs.Stops.{Only};
 ghost use Rattle.uq_page.specs.Page.{bytes_of};
 ghost use Rattle.uq_page.specs.MemPages.{pages_in, fails_in, is_sound_now};
