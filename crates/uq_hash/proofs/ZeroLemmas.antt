@@ -1,5 +1,5 @@
 -- Lists of zero bytes.
-use Rattle.std.proofs.Common.{◌≡◌, ℕ, ◌-◌, ◌≤◌, List, length, take, drop}
+use Rattle.std.proofs.Common.{◌≡◌, ℕ, ◌-◌, ◌≤◌, length, take, drop}
 use Rattle.std.proofs.lemmas.List.{length-replicate, drop-replicate, take-replicate}
 use Rattle.uq_page.specs.Page.{zeros}
 
