@@ -1,0 +1,13 @@
+use Rattle.uq_page.specs.Page.{bytes_of}
+use Rattle.uq_chain.proofs.ToldLemmas.{turns_placed, placed_there}
+use Rattle.uq_chain.proofs.free_list.place_page.Goals as goal
+
+pub returns-clause-taken : goal.returns-clause-taken
+returns-clause-taken g c =
+    turns_placed (g.P.Pages.pages c.args.p.now) (g.P.Pages.pages c.pop_page.new.p) (g.P.Pages.pages c.write_page.new.self) c.args.h.now.free c.pop_page.new.h.free c.in_ok-no.no (bytes_of c.args.page.now)
+    c.in_ok-no.ensures.taken c.in_ok-write_page.ensures.ok
+
+pub returns-clause-page : goal.returns-clause-page
+returns-clause-page g c before was row free =
+    placed_there (g.P.Pages.pages c.pop_page.new.p) (g.P.Pages.pages c.write_page.new.self) c.in_ok-no.no (g.P.Pages.size c.pop_page.new.p) (bytes_of c.args.page.now)
+    (g.met.P.Pages.size_is c.pop_page.new.p) c.in_ok-no.ensures.there c.in_ok-write_page.ensures.ok

@@ -1,0 +1,9 @@
+pub mod CauseLaws
+pub mod Causes
+pub mod Chain
+pub mod ChainLaws
+pub mod FreeList
+pub mod Grown
+pub mod NumberLaws
+pub mod RowLaws
+pub mod TurnLaws
