@@ -1,7 +1,7 @@
 -- Chains of pages that hold bytes.
 use Rattle.std.proofs.Common.{◌≡◌, ℕ, ◌-◌, ◌<◌, ◌≤◌, ◌^◌, List, [], ◌∷◌, ◌++◌, length, take, drop, Some, refl, sym, ap, subst, ◌∙◌, arith}
 use Rattle.std.specs.Prelude.{slice_get, min}
-use Rattle.std.proofs.lemmas.List.{length-take, length-drop, take_at}
+use Rattle.std.proofs.lemmas.List.{length-take, length-drop, nil_from_length, take_at}
 use Rattle.std.proofs.lemmas.Option.{same_Some, slice_get_within}
 use Rattle.uq_page.specs.Page.{zeros}
 use Rattle.uq_page.specs.ValuePage.{value_page, value_fields, IsValueHead}
@@ -115,3 +115,14 @@ first_head pages first row bytes page is some there =
     let same : value_page (take 4080 bytes) start.next ≡ page = same_Some (value_page (take 4080 bytes) start.next) page (sym start.page ∙ there) in
     let P : List ℕ → Type 0 = λ xs. IsValueHead xs (record { held = length (take 4080 bytes); next = start.next }) in
     (record { held = length (take 4080 bytes); next = start.next }, subst P same (value_head (take 4080 bytes) start.next start.fits (omega arith) (omega arith)), front)
+
+-- the last page of a chain names no next one
+pub last_page : (pages : List (List ℕ)) (first : ℕ) (row bytes page : List ℕ) (head : ValueHead) → IsChain pages first row bytes → 1 ≤ length bytes → length bytes ≤ 4080
+    → slice_get pages first ≡ Some page → IsValueHead page head → head.held ≡ min (length bytes) 4080 → head.next ≡ 0
+last_page pages first row bytes page head is some few there valued held =
+    let part = reads pages first row bytes page head is some there valued.next valued.bytes held in
+    let full = part.behind.full in
+    let dropped = length-drop 4080 bytes in
+    let nil : part.rest ≡ [] = nil_from_length part.rest (omega arith) in
+    let P : List ℕ → Type 0 = λ rest. IsChain pages head.next rest (drop 4080 bytes) in
+    (subst P nil part.behind).linked

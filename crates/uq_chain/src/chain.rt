@@ -23,6 +23,7 @@ pub(crate) fn read_part<P: Pages>(
     ensures page { OnOk result (ForSome (P.pages p.old) (λ pages. slice_get pages no ≡ Some (bytes_of page.new))) }
     ensures head { IfOk result (IsValueHead (bytes_of page.new)) }
     ensures held { IfOk result (λ head. head.held ≡ min left VALUE_ROOM) }
+    ensures ends { IfOk result (λ head. left ≤ VALUE_ROOM → head.next ≡ 0) }
     ensures there { OnOk result (no < P.size p.new) }
     ensures number { OnOk result (1 ≤ no) }
     ensures same { UnlessErr ChainFault.Failed result (P.pages p.new ≡ P.pages p.old) }
@@ -37,6 +38,10 @@ pub(crate) fn read_part<P: Pages>(
     p.read_page(no, page)?;
     let head = read_value_page(page).ok_or(ChainFault::Corrupt)?;
     if u32::from(head.held) != left.min(VALUE_ROOM as u32) {
+        return Err(ChainFault::Corrupt);
+    }
+    // A chain that goes on behind its last byte is none, so no loop of pages is taken for one.
+    if left <= VALUE_ROOM as u32 && head.next != 0 {
         return Err(ChainFault::Corrupt);
     }
     Ok(head)
