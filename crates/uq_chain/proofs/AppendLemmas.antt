@@ -10,8 +10,9 @@ use Rattle.uq_chain.specs.Grown.{grown}
 use Rattle.uq_page.specs.Row.{IsRow}
 use Rattle.uq_chain.specs.FreeList.{IsFreeList, Turned}
 use Rattle.uq_chain.specs.Chain.{IsAppended, IsChain, IsTail, IsWritten, pieces}
-use Rattle.uq_chain.specs.NumberLaws.{times-append, times_self, grown_below}
-use Rattle.uq_chain.specs.RowLaws.{keeps_row, row_joined, row_once, row_within, get_set_other, get_set_same}
+use Rattle.uq_page.specs.NumberLaws.{times-append, times_self}
+use Rattle.uq_chain.specs.GrownLaws.{grown_below}
+use Rattle.uq_page.specs.RowLaws.{keeps_row, row_joined, row_once, row_within, get_set_other, get_set_same}
 use Rattle.uq_chain.specs.TurnLaws.{turned_write}
 use Rattle.uq_chain.specs.ChainLaws.{reads, value_tells}
 use Rattle.uq_chain.proofs.PartLemmas.{part_drop, rest_len}

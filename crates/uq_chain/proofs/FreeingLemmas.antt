@@ -8,8 +8,8 @@ use Rattle.uq_page.specs.declared.value_page.ValueHead.{ValueHead}
 use Rattle.uq_page.specs.Numbers.{times}
 use Rattle.uq_chain.specs.FreeList.{IsFreeList, Turned, free_at}
 use Rattle.uq_chain.specs.Chain.{IsChain, pieces}
-use Rattle.uq_chain.specs.NumberLaws.{times-append, times_other}
-use Rattle.uq_chain.specs.RowLaws.{kind_apart, row_within, rows_apart}
+use Rattle.uq_page.specs.NumberLaws.{times-append, times_other}
+use Rattle.uq_page.specs.RowLaws.{kind_apart, row_within, rows_apart}
 use Rattle.uq_chain.specs.TurnLaws.{turned_none, turned_then}
 use Rattle.uq_chain.specs.ChainLaws.{reads, keeps_chain, take-value_page}
 use Rattle.uq_chain.proofs.PartLemmas.{part_drop, rest_len}

@@ -7,8 +7,8 @@ use Rattle.std.proofs.lemmas.Bool.{false≢true}
 use Rattle.uq_page.specs.FreePage.{free_page, IsFreePage}
 use Rattle.uq_page.specs.Numbers.{times}
 use Rattle.uq_chain.specs.FreeList.{IsFreeList, Turned, Turns, WasRight}
-use Rattle.uq_chain.specs.NumberLaws.{times_self}
-use Rattle.uq_chain.specs.RowLaws.{get_last, get_set_same}
+use Rattle.uq_page.specs.NumberLaws.{times_self}
+use Rattle.uq_page.specs.RowLaws.{get_last, get_set_same}
 use Rattle.uq_chain.specs.TurnLaws.{turned_reused, turned_grown, turned_given, turned_write, taken_apart, given_back}
 
 -- what is told after a change of what was told

@@ -7,8 +7,8 @@ use Rattle.uq_page.specs.ValuePage.{value_page}
 use Rattle.uq_page.specs.Numbers.{times}
 use Rattle.uq_chain.specs.FreeList.{IsFreeList, Turned}
 use Rattle.uq_chain.specs.Chain.{IsChain, IsWritten, pages_for, pieces}
-use Rattle.uq_chain.specs.NumberLaws.{times-append, times-cons}
-use Rattle.uq_chain.specs.RowLaws.{row_within}
+use Rattle.uq_page.specs.NumberLaws.{times-append, times-cons}
+use Rattle.uq_page.specs.RowLaws.{row_within}
 use Rattle.uq_chain.specs.TurnLaws.{turned_none, turned_then, turned_as, taken_apart}
 use Rattle.uq_chain.specs.ChainLaws.{keeps_chain, chain_more}
 

@@ -9,7 +9,7 @@ use Rattle.uq_page.specs.NextLaws.{same_value_next, same_fields_next}
 use Rattle.uq_page.specs.declared.value_page.ValueHead.{ValueHead}
 use Rattle.uq_page.specs.Numbers.{times}
 use Rattle.uq_chain.specs.Chain.{IsChain, pieces}
-use Rattle.uq_chain.specs.RowLaws.{Tells, keeps_row, first_once}
+use Rattle.uq_page.specs.RowLaws.{Tells, keeps_row, first_once}
 
 pub value_tells : Tells value_page
 value_tells a b m n fits fits' same = same_value_next a b m n fits fits' same

@@ -4,6 +4,7 @@ pub mod Chain
 pub mod ChainLaws
 pub mod FreeList
 pub mod Grown
-pub mod NumberLaws
-pub mod RowLaws
+pub mod GrownLaws
+pub mod Path
+pub mod PathLaws
 pub mod TurnLaws

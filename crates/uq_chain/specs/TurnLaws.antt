@@ -9,8 +9,9 @@ use Rattle.uq_page.specs.NextLaws.{same_free_next}
 use Rattle.uq_page.specs.Numbers.{times, SameNumbers}
 use Rattle.uq_chain.specs.Grown.{grown}
 use Rattle.uq_chain.specs.FreeList.{IsFreeList, Turned, free_at, KeepsHeader}
-use Rattle.uq_chain.specs.NumberLaws.{times-append, times-cons, times_self, none_or_some, grown_none, grown_one, grown_below, grown_once, grown_twice}
-use Rattle.uq_chain.specs.RowLaws.{Tells, keeps_row, row_within, row_once, first_once, one_row, get_set_other, get_set_same, get_longer}
+use Rattle.uq_page.specs.NumberLaws.{times-append, times-cons, times_self, none_or_some}
+use Rattle.uq_chain.specs.GrownLaws.{grown_none, grown_one, grown_below, grown_once, grown_twice}
+use Rattle.uq_page.specs.RowLaws.{Tells, keeps_row, row_within, row_once, first_once, one_row, get_set_other, get_set_same, get_longer}
 
 pub free_tells : Tells free_at
 free_tells a b m n fits fits' same = same_free_next m n fits fits' same

@@ -1,5 +1,6 @@
 //! A chain made longer.
-ghost use Rattle.std.specs.Prelude.{◌≡◌, ◌+◌, ◌-◌, ◌%◌, ◌≤◌, ◌<◌, ◌++◌, true, length, take, drop, OnOk, IfOk, is_some};
+ghost use Rattle.std.specs.Prelude.{◌≡◌, ◌+◌, ◌-◌, ◌%◌, ◌≤◌, ◌<◌, ◌++◌, true, length, take, drop, OnOk, IfOk, Some, is_some, slice_get};
+ghost use Rattle.std.specs.Option.{ForSome};
 ghost use Rattle.uq_facts.specs.Causes.{UnlessErr};
 ghost use Rattle.uq_page.specs.declared.layout.TheConstants.{VALUE_AT, VALUE_ROOM};
 ghost use Rattle.uq_page.specs.Page.{bytes_of};
@@ -7,6 +8,7 @@ ghost use Rattle.uq_page.specs.ValuePage.{IsValueHead, value_page};
 ghost use Rattle.uq_chain.specs.Causes.{HasChainCause, NoFreeList, IsShort};
 ghost use Rattle.uq_chain.specs.Chain.{Appends, IsTail, NoChain, NoChainOrFreeList, WhereChain, Writes, pages_for};
 ghost use Rattle.uq_chain.specs.FreeList.{KeepsCount, KeepsHeader};
+ghost use Rattle.uq_chain.specs.Path.{ChainLeads, KeepsButBoth, KeepsButFree};
 
 use crate::chain::read_part;
 use crate::write_chain;
@@ -24,6 +26,8 @@ fn find_last<P: Pages>(p: &mut P, first: u32, len: u32, page: &mut Page) -> Resu
     requires sound { P.is_sound p.old ≡ true }
     requires some { 1 ≤ len }
     ensures tail { IfOk result (λ last. WhereChain (P.pages p.old) first len (λ pages row bytes. IsTail pages row bytes last.no last.head.held (bytes_of page.new))) }
+    ensures leads { IfOk result (λ last. ChainLeads (P.pages p.old) first last.no) }
+    ensures page { IfOk result (λ last. ForSome (P.pages p.old) (λ pages. slice_get pages last.no ≡ Some (bytes_of page.new))) }
     ensures head { IfOk result (λ last. IsValueHead (bytes_of page.new) last.head) }
     ensures held { IfOk result (λ last. last.head.held ≡ (len - 1) % VALUE_ROOM + 1) }
     ensures there { IfOk result (λ last. last.no < P.size p.new) }
@@ -66,6 +70,7 @@ fn write_rest<P: Pages>(p: &mut P, h: &mut Header, bytes: &[u8]) -> Result<u32, 
     requires sound { P.is_sound p.old ≡ true }
     requires some { 1 ≤ P.size p.old }
     ensures written { IfOk result (λ first. Writes (P.pages p.old) (P.pages p.new) h.old.free h.new.free first bytes.now) }
+    ensures others { OnOk result (KeepsButFree (P.pages p.old) (P.pages p.new) h.old.free h.new.free) }
     ensures header { OnOk result (KeepsHeader h.old h.new) }
     ensures count { OnOk result (KeepsCount h.old h.new (P.size p.old) (P.size p.new)) }
     ensures told { UnlessErr ChainFault.Failed result (is_some (P.pages p.new) ≡ is_some (P.pages p.old)) }
@@ -95,6 +100,7 @@ pub fn append_chain<P: Pages>(
     requires some { 1 ≤ P.size p.old }
     requires len { 1 ≤ len }
     ensures appended { OnOk result (Appends (P.pages p.old) (P.pages p.new) h.old.free h.new.free first len bytes.now) }
+    ensures others { OnOk result (KeepsButBoth (P.pages p.old) (P.pages p.new) h.old.free first) }
     ensures header { OnOk result (KeepsHeader h.old h.new) }
     ensures count { OnOk result (KeepsCount h.old h.new (P.size p.old) (P.size p.new)) }
     ensures told { UnlessErr ChainFault.Failed result (is_some (P.pages p.new) ≡ is_some (P.pages p.old)) }

@@ -8,6 +8,7 @@ ghost use Rattle.uq_page.specs.ValuePage.{IsValueHead};
 ghost use Rattle.uq_chain.specs.Causes.{HasChainCause};
 ghost use Rattle.uq_chain.specs.Chain.{NoChain, NoChainOrFreeList, WhereChain, pages_for};
 ghost use Rattle.uq_chain.specs.FreeList.{KeepsHeader, Turns};
+ghost use Rattle.uq_chain.specs.Path.{KeepsButChain};
 
 use crate::give_page;
 use uq_page::{ChainFault, Header, Page, Pages, VALUE_AT, VALUE_ROOM, ValueHead, read_value_page};
@@ -123,6 +124,7 @@ pub fn free_chain<P: Pages>(
 ) -> Result<(), ChainFault>
     requires { P.is_sound p.old ≡ true }
     ensures freed { OnOk result (WhereChain (P.pages p.old) first len (λ pages row bytes. Turns (P.pages p.old) (P.pages p.new) h.old.free h.new.free row [])) }
+    ensures others { OnOk result (KeepsButChain (P.pages p.old) (P.pages p.new) first) }
     ensures header { OnOk result (KeepsHeader h.old h.new) }
     ensures count { OnOk result (h.new.pages ≡ h.old.pages) }
     ensures told { UnlessErr ChainFault.Failed result (is_some (P.pages p.new) ≡ is_some (P.pages p.old)) }

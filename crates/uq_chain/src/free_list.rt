@@ -1,11 +1,13 @@
 //! The free list: the pages that are in no use, each of which names the next.
-ghost use Rattle.std.specs.Prelude.{◌≡◌, ◌+◌, ◌≤◌, ◌<◌, ℕ, List, [], ◌∷◌, true, OnOk, IfOk, is_some};
-ghost use Rattle.std.specs.Option.{ForSome};
+ghost use Rattle.std.specs.Prelude.{◌≡◌, ◌+◌, ◌≤◌, ◌<◌, ℕ, List, [], ◌∷◌, ◌++◌, true, OnOk, IfOk, is_some, slice_set};
+ghost use Rattle.std.specs.Option.{ForSome, option_map};
 ghost use Rattle.uq_facts.specs.Causes.{UnlessErr};
+ghost use Rattle.uq_page.specs.FreePage.{free_page, IsFreePage};
 ghost use Rattle.uq_page.specs.Numbers.{times};
 ghost use Rattle.uq_page.specs.Page.{bytes_of};
 ghost use Rattle.uq_chain.specs.Causes.{HasChainCause, NoFreeList, IsShort};
 ghost use Rattle.uq_chain.specs.FreeList.{IsFreeList, KeepsCount, KeepsHeader, Places, Turns, WasRight};
+ghost use Rattle.uq_chain.specs.Path.{IsInUse, IsPath, KeepsButFree, KeepsPages};
 
 use uq_page::{ChainFault, Header, Page, Pages, read_free, write_free};
 
@@ -22,6 +24,8 @@ fn grow_page<P: Pages>(p: &mut P, h: &mut Header, page: &Page) -> Result<u32, Ch
     ensures count { OnOk result (KeepsCount h.old h.new (P.size p.old) (P.size p.new)) }
     ensures told { UnlessErr ChainFault.Failed result (is_some (P.pages p.new) ≡ is_some (P.pages p.old)) }
     ensures size { P.size p.old ≤ P.size p.new }
+    ensures grown { OnOk result (P.pages p.new ≡ option_map (λ pages. pages ++ bytes_of page.now ∷ []) (P.pages p.old)) }
+    ensures list { OnOk result (h.new.free ≡ h.old.free) }
     ensures asked { P.asked p.new ≡ P.asked p.old }
     ensures keeps { P.keeps p.old p.new }
     ensures cause { HasChainCause (NoFreeList (P.pages p.old) h.old.free) (IsShort (P.pages p.old) h.old.free (P.size p.new) 1)
@@ -40,6 +44,8 @@ fn pop_page<P: Pages>(p: &mut P, h: &mut Header) -> Result<u32, ChainFault>
     requires sound { P.is_sound p.old ≡ true }
     requires some { h.old.free ≡ 0 → ⊥ }
     ensures taken { IfOk result (λ no. Turns (P.pages p.old) (P.pages p.new) h.old.free h.new.free [] (no ∷ [])) }
+    ensures first { IfOk result (λ no. no ≡ h.old.free) }
+    ensures leads { OnOk result (ForSome (P.pages p.old) (λ pages. IsPath IsFreePage pages h.old.free (h.old.free ∷ []) h.new.free)) }
     ensures there { IfOk result (λ no. no < P.size p.new) }
     ensures number { IfOk result (λ no. 1 ≤ no) }
     ensures header { OnOk result (KeepsHeader h.old h.new) }
@@ -65,6 +71,7 @@ pub fn take_page<P: Pages>(p: &mut P, h: &mut Header) -> Result<u32, ChainFault>
     requires sound { P.is_sound p.old ≡ true }
     requires some { 1 ≤ P.size p.old }
     ensures taken { IfOk result (λ no. Turns (P.pages p.old) (P.pages p.new) h.old.free h.new.free [] (no ∷ [])) }
+    ensures others { OnOk result (KeepsPages (P.pages p.old) (P.pages p.new)) }
     ensures there { IfOk result (λ no. no < P.size p.new) }
     ensures number { IfOk result (λ no. 1 ≤ no) }
     ensures header { OnOk result (KeepsHeader h.old h.new) }
@@ -88,6 +95,7 @@ pub fn place_page<P: Pages>(p: &mut P, h: &mut Header, page: &Page) -> Result<u3
     requires some { 1 ≤ P.size p.old }
     ensures taken { IfOk result (λ no. Turns (P.pages p.old) (P.pages p.new) h.old.free h.new.free [] (no ∷ [])) }
     ensures page { IfOk result (λ no. Places (P.pages p.old) (P.pages p.new) h.old.free no (bytes_of page.now)) }
+    ensures others { IsInUse (bytes_of page.now) → OnOk result (KeepsButFree (P.pages p.old) (P.pages p.new) h.old.free h.new.free) }
     ensures there { IfOk result (λ no. no < P.size p.new) }
     ensures number { IfOk result (λ no. 1 ≤ no) }
     ensures header { OnOk result (KeepsHeader h.old h.new) }
@@ -115,6 +123,7 @@ pub fn give_page<P: Pages>(p: &mut P, h: &mut Header, no: u32) -> Result<(), Cha
     requires used { ForSome (P.pages p.old) (λ pages. (row : List ℕ) → IsFreeList pages h.old.free row → times no row ≡ 0) }
     ensures given { OnOk result (Turns (P.pages p.old) (P.pages p.new) h.old.free h.new.free (no ∷ []) []) }
     ensures right { OnOk result (WasRight (P.pages p.old) (P.pages p.new) h.old.free h.new.free) }
+    ensures page { OnOk result (P.pages p.new ≡ option_map (λ pages. slice_set pages no (free_page h.old.free)) (P.pages p.old)) }
     ensures header { OnOk result (KeepsHeader h.old h.new) }
     ensures count { OnOk result (h.new.pages ≡ h.old.pages) }
     ensures told { UnlessErr ChainFault.Failed result (is_some (P.pages p.new) ≡ is_some (P.pages p.old)) }

@@ -7,6 +7,7 @@ ghost use Rattle.uq_page.specs.ValuePage.{value_page};
 ghost use Rattle.uq_chain.specs.Causes.{HasChainCause, NoFreeList, IsShort};
 ghost use Rattle.uq_chain.specs.Chain.{Writes, pages_for};
 ghost use Rattle.uq_chain.specs.FreeList.{KeepsCount, KeepsHeader};
+ghost use Rattle.uq_chain.specs.Path.{KeepsButFree};
 
 use crate::place_page;
 use uq_page::{ChainFault, Header, Page, Pages, VALUE_AT, VALUE_ROOM, ValueHead, write_value_page};
@@ -34,6 +35,7 @@ pub fn write_chain<P: Pages>(p: &mut P, h: &mut Header, bytes: &[u8]) -> Result<
     requires some { 1 ≤ P.size p.old }
     requires piece { 1 ≤ length bytes.now }
     ensures written { IfOk result (λ first. Writes (P.pages p.old) (P.pages p.new) h.old.free h.new.free first bytes.now) }
+    ensures others { OnOk result (KeepsButFree (P.pages p.old) (P.pages p.new) h.old.free h.new.free) }
     ensures number { IfOk result (λ first. 1 ≤ first) }
     ensures header { OnOk result (KeepsHeader h.old h.new) }
     ensures count { OnOk result (KeepsCount h.old h.new (P.size p.old) (P.size p.new)) }

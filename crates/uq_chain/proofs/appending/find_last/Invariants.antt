@@ -1,6 +1,7 @@
 use Rattle.std.proofs.Common.{◌≡◌, ◌+◌, ◌-◌, ◌%◌, ◌≤◌, ℕ, List, true, length}
 use Rattle.std.specs.Option.{ForSome}
 use Rattle.uq_chain.specs.Chain.{IsChain, pages_for}
+use Rattle.uq_chain.specs.Path.{ChainLeads}
 use Rattle.uq_chain.proofs.AppendLemmas.{Passing}
 use Rattle.uq_chain.proofs.appending.find_last.Given as goal
 
@@ -14,6 +15,7 @@ invariant-loop-left g l = record {
   size : g.P.Pages.size l.p ≡ g.P.Pages.size l.fn.p;
   reads : g.P.Pages.only_reads l.fn.p l.p;
   quiet : g.P.Pages.faults l.p ≡ g.P.Pages.faults l.fn.p;
+  leads : ChainLeads (g.P.Pages.pages l.fn.p) l.fn.first l.no;
   passing : ForSome (g.P.Pages.pages l.fn.p) (λ pages. (row bytes : List ℕ) → IsChain pages l.fn.first row bytes → length bytes ≡ l.fn.len → Passing pages l.no l.left row bytes);
 }
 

@@ -7,6 +7,9 @@ use Rattle.uq_chain.specs.FreeList.{IsFreeList, Turned}
 use Rattle.uq_chain.specs.CauseLaws.{handed_on, not_err}
 use Rattle.uq_chain.specs.TurnLaws.{header_itself, header_on}
 use Rattle.uq_chain.proofs.PartLemmas.{fewer, rest_len}
+use Rattle.uq_page.specs.FreePage.{free_page}
+use Rattle.uq_chain.specs.Path.{IsValuePage}
+use Rattle.uq_chain.proofs.KeepLemmas.{free_no_value, keeps_none, keeps_set, keeps_then}
 use Rattle.uq_chain.proofs.FreeingLemmas.{Freeing, freeing_none, freeing_more, freeing_all, part_not_free}
 use Rattle.uq_chain.proofs.ToldLemmas.{told_same, told_still}
 use Rattle.uq_chain.proofs.chain.free_chain.Goals as goal
@@ -21,6 +24,7 @@ loop-left-init g c = record {
   keeps = g.met.P.Pages.keeps_itself _;
   quiet = refl;
   header = header_itself c.args.h.now;
+  others = keeps_none IsValuePage (g.P.Pages.pages c.args.p.now) (g.P.Pages.pages c.args.p.now) c.args.first refl;
   count = refl;
   freed = λ before told row bytes is long free list now told_now.
       let same = told_same _ _ before now refl told told_now in
@@ -75,6 +79,18 @@ loop-left-preserved g c =
       keeps = g.met.P.Pages.keeps_on _ _ _ c.loop-left.invariant.keeps (g.met.P.Pages.keeps_on _ _ _ (g.met.P.Pages.reads_keep _ _ c.in_ok-head.ensures.reads) c.in_ok-give_page.ensures.keeps);
       quiet = c.in_ok-give_page.ensures.cause.pages.quiet (not_err _ _) ∙ cause.pages.quiet (not_err _ _) ∙ c.loop-left.invariant.quiet;
       header = header_on _ _ _ c.loop-left.invariant.header c.in_ok-give_page.ensures.header;
+      others = keeps_then IsValuePage (g.P.Pages.pages c.args.p.now) (g.P.Pages.pages c.loop-left.p) (g.P.Pages.pages c.give_page.new.p) c.args.first c.loop-left.no head.next
+          c.loop-left.invariant.told c.loop-left.invariant.others
+          (keeps_set IsValuePage (g.P.Pages.pages c.loop-left.p) (g.P.Pages.pages c.read_part.new.p) (g.P.Pages.pages c.give_page.new.p) c.loop-left.no c.loop-left.no head.next (free_page c.loop-left.h.free) same refl
+          (λ pages told. record {
+            is = refl;
+            page = bytes_of c.read_part.new.page;
+            next = head.next;
+            there = c.in_ok-head.ensures.page pages told;
+            kind = record { head = head; is = c.in_ok-head.ensures.head; names = refl };
+            rest = refl;
+          })
+          c.in_ok-give_page.ensures.page (free_no_value c.loop-left.h.free));
       count = c.in_ok-give_page.ensures.count ∙ c.loop-left.invariant.count;
       freed = λ before told row bytes is long free list after told_after.
           let now = told_still (g.P.Pages.pages c.args.p.now) (g.P.Pages.pages c.loop-left.p) before c.loop-left.invariant.told told in
@@ -94,3 +110,6 @@ returns-clause-freed g c before told row bytes is long before' told' free list a
     let so = c.loop-left.invariant.freed before told row bytes is long free (subst Q (sym same) list) after told_after in
     let none = c.loop-left-test.false in
     subst P same (freeing_all before after c.loop-left.h.free free row bytes c.loop-left.no c.loop-left.left (omega arith) so)
+
+pub returns-clause-others : goal.returns-clause-others
+returns-clause-others g c = (c.loop-left.no, c.loop-left.invariant.others)

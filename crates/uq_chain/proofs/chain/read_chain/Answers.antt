@@ -3,7 +3,7 @@ use Rattle.uq_page.specs.ValuePage.{value_page}
 use Rattle.uq_chain.specs.CauseLaws.{corrupted}
 use Rattle.uq_chain.specs.Chain.{NoChain, pieces}
 use Rattle.uq_chain.specs.ChainLaws.{value_tells}
-use Rattle.uq_chain.specs.RowLaws.{row_short}
+use Rattle.uq_page.specs.RowLaws.{row_short}
 use Rattle.uq_chain.proofs.chain.read_chain.Goals as goal
 
 pub returns-then-from-clause-cause : goal.returns-then-from-clause-cause

@@ -1,4 +1,7 @@
 use Rattle.uq_page.specs.Page.{bytes_of}
+use Rattle.uq_page.specs.FreePage.{IsFreePage}
+use Rattle.uq_chain.specs.CauseLaws.{not_err}
+use Rattle.uq_chain.proofs.KeepLemmas.{keeps_appended, keeps_set, on_both}
 use Rattle.uq_chain.proofs.ToldLemmas.{turns_placed, placed_there}
 use Rattle.uq_chain.proofs.free_list.place_page.Goals as goal
 
@@ -11,3 +14,13 @@ pub returns-clause-page : goal.returns-clause-page
 returns-clause-page g c before was row free =
     placed_there (g.P.Pages.pages c.pop_page.new.p) (g.P.Pages.pages c.write_page.new.self) c.in_ok-no.no (g.P.Pages.size c.pop_page.new.p) (bytes_of c.args.page.now)
     (g.met.P.Pages.size_is c.pop_page.new.p) c.in_ok-no.ensures.there c.in_ok-write_page.ensures.ok
+
+pub returns-clause-others : goal.returns-clause-others
+returns-clause-others g c used =
+    keeps_set IsFreePage (g.P.Pages.pages c.args.p.now) (g.P.Pages.pages c.pop_page.new.p) (g.P.Pages.pages c.write_page.new.self) c.args.h.now.free c.in_ok-no.no c.pop_page.new.h.free (bytes_of c.args.page.now)
+    (c.in_ok-no.ensures.same (not_err _ _)) c.in_ok-no.ensures.first c.in_ok-no.ensures.leads c.in_ok-write_page.ensures.ok used
+
+pub returns-then-h-eq0-clause-others : goal.returns-then-h-eq0-clause-others
+returns-then-h-eq0-clause-others g c used =
+    on_both c.grow_page.result (keeps_appended (g.P.Pages.pages c.args.p.now) (g.P.Pages.pages c.grow_page.new.p) c.args.h.now.free c.grow_page.new.h.free (bytes_of c.args.page.now) used)
+    c.grow_page.ensures.grown c.grow_page.ensures.list

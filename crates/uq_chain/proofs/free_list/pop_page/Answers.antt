@@ -29,6 +29,16 @@ returns-in_err-h-clause-cause g c =
     let is = head_is_free pages c.args.h.now.free (bytes_of c.read_page.new.into) row c.requires.some there free in
     none-some is.0 (sym none ∙ c.read_free.ensures.exact is.0 is.1))
 
+pub returns-clause-leads : goal.returns-clause-leads
+returns-clause-leads g c pages told = record {
+  is = refl;
+  page = bytes_of c.read_page.new.into;
+  next = c.in_ok-h.field-0;
+  there = c.in_ok-read_page.ensures.page pages told;
+  kind = subst (λ (o : Option ℕ). IfSome o (IsFreePage (bytes_of c.read_page.new.into))) c.in_ok-h.ensures.ok_part c.read_free.ensures.found;
+  rest = refl;
+}
+
 pub returns-clause-taken : goal.returns-clause-taken
 returns-clause-taken g c =
     let is : IsFreePage (bytes_of c.read_page.new.into) c.in_ok-h.field-0 = subst (λ (o : Option ℕ). IfSome o (IsFreePage (bytes_of c.read_page.new.into))) c.in_ok-h.ensures.ok_part c.read_free.ensures.found in

@@ -7,7 +7,7 @@ use Rattle.std.proofs.lemmas.List.{length-set, length-append, get_or_append_left
 use Rattle.std.proofs.lemmas.Option.{slice_get-get_or, slice_get_within, slice_get_past, same_Some}
 use Rattle.uq_page.specs.Numbers.{times}
 use Rattle.uq_page.specs.Row.{IsRow}
-use Rattle.uq_chain.specs.NumberLaws.{times-cons, times_self, times_other, times_of_one, none_or_some}
+use Rattle.uq_page.specs.NumberLaws.{times-cons, times_self, times_other, times_of_one, none_or_some}
 
 -- pages that are read after a write or a growth
 pub get_set_other : (xs : List (List ℕ)) (i k : ℕ) (x : List ℕ) → (k ≡ i → ⊥) → slice_get (slice_set xs i x) k ≡ slice_get xs k
