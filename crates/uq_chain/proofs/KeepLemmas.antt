@@ -1,22 +1,23 @@
 -- Pages that are told, of which those on a path change.
-use Rattle.std.proofs.Common.{◌≡◌, ℕ, List, [], ◌∷◌, ◌++◌, length, Option, Some, Result, Ok, Err, is_some, refl, sym, ap, subst, ◌∙◌, arith}
-use Rattle.std.specs.Prelude.{slice_get, slice_set, OnOk}
+use Rattle.std.proofs.Common.{◌≡◌, ◌⊎◌, inl, inr, ℕ, ◌+◌, ◌≤◌, List, [], ◌∷◌, ◌++◌, length, Option, Some, Result, Ok, Err, is_some, refl, sym, ap, subst, ◌∙◌, arith}
+use Rattle.std.specs.Prelude.{slice_get, slice_set, IfOk, OnOk}
 use Rattle.std.specs.Option.{ForSome, option_map}
 use Rattle.std.proofs.lemmas.Option.{same_Some}
 use Rattle.uq_page.specs.declared.value_page.ValueHead.{ValueHead}
 use Rattle.uq_page.specs.FreePage.{free_page, IsFreePage}
 use Rattle.uq_page.specs.NextLaws.{value_not_free}
 use Rattle.uq_page.specs.Numbers.{times}
-use Rattle.uq_page.specs.NumberLaws.{times-append, times_self}
+use Rattle.uq_page.specs.NumberLaws.{none_or_some, times-append, times_self}
 use Rattle.uq_page.specs.RowLaws.{get_longer, get_set_other}
 use Rattle.uq_page.specs.ValuePage.{IsValueHead, value_page}
 use Rattle.uq_chain.specs.ChainLaws.{take-value_page}
-use Rattle.uq_chain.specs.Path.{Along, IsInUse, IsPath, IsValuePage, KeepsBut, KeepsButBoth, KeepsButFree, KeepsPages}
+use Rattle.uq_chain.specs.FreeList.{GrowsLast, IsTaken}
+use Rattle.uq_chain.specs.Path.{Along, IsNotFree, IsPath, IsValuePage, KeepsBut, KeepsButBoth, KeepsButFree, KeepsPages}
 use Rattle.uq_chain.specs.PathLaws.{along_none, along_then, along_set, along_grown, path_then}
 use Rattle.uq_chain.proofs.ToldLemmas.{told_as, told_still}
 
 -- a page of a chain is in use
-pub value_in_use : (bytes : List ℕ) (next : ℕ) → IsInUse (value_page bytes next)
+pub value_in_use : (bytes : List ℕ) (next : ℕ) → IsNotFree (value_page bytes next)
 value_in_use bytes next n free = value_not_free (value_page bytes next) (record { held = length bytes; next = next }) n (take-value_page bytes next) free.bytes
 
 -- a free page is none of a chain
@@ -86,6 +87,24 @@ pub on_both : {T E P Q R : Type 0} (r : Result T E) → (P → Q → R) → OnOk
 on_both (Ok x) f p q = f p q
 on_both (Err e) f p q = tt
 
-pub keeps_appended : (old new : Option (List (List ℕ))) (head now : ℕ) (page : List ℕ) → IsInUse page → new ≡ option_map (λ pages. pages ++ page ∷ []) old → now ≡ head → KeepsButFree old new head now
+pub keeps_appended : (old new : Option (List (List ℕ))) (head now : ℕ) (page : List ℕ) → IsNotFree page → new ≡ option_map (λ pages. pages ++ page ∷ []) old → now ≡ head → KeepsButFree old new head now
 keeps_appended old new head now page used change same =
     subst (λ (h : ℕ). KeepsButFree old new head h) (sym same) (keeps_grown IsFreePage old new head page change used)
+
+-- the page that was taken, by the ways in which it is
+pub taken_new : {E : Type 0} (r : Result ℕ E) (head last before now : ℕ) → head ≡ 0 → IfOk r (λ n. n ≡ before) → OnOk r (now ≡ before + 1) → OnOk r (last ≡ head) → IfOk r (λ n. IsTaken head last before now n)
+taken_new (Ok n) head last before now none is larger list = record { listed = λ some. absurd (some none); grown = λ _. (is, larger, list ∙ none) }
+taken_new (Err e) head last before now none is larger list = tt
+
+pub taken_listed : {E : Type 0} (r : Result ℕ E) (head last before now : ℕ) → (head ≡ 0 → ⊥) → IfOk r (λ n. n ≡ head) → now ≡ before → IfOk r (λ n. IsTaken head last before now n)
+taken_listed (Ok n) head last before now some is same = record { listed = λ _. (is, same); grown = λ none. absurd (some none) }
+taken_listed (Err e) head last before now some is same = tt
+
+-- one page more
+pub grows_on : (head at last before mid now n : ℕ) → GrowsLast at before mid → IsTaken at last mid now n → GrowsLast last before now
+grows_on head at last before mid now n first next = by_cases (none_or_some at) first
+  where
+    by_cases : (at ≡ 0) ⊎ (1 ≤ at) → (mid ≡ before) ⊎ (at ≡ 0) → (now ≡ before) ⊎ (last ≡ 0)
+    by_cases (inl none) so = inr (next.grown none).2
+    by_cases (inr some) (inl same) = inl ((next.listed (λ none. absurd (omega arith))).1 ∙ same)
+    by_cases (inr some) (inr none) = absurd (omega arith)

@@ -7,7 +7,8 @@ use Rattle.uq_page.specs.declared.error.ChainFault.TheVariants.{Failed, Corrupt,
 use Rattle.uq_page.specs.Pages.{HasPagesCause}
 use Rattle.uq_chain.specs.FreeList.{IsFreeList}
 
--- Each fault comes only for its cause, and `Memory` is free: `Failed` where the pages failed, `Corrupt` and `NoPage` only where these hold.
+-- Each fault comes only for its cause, and `Memory` is free: `Failed` where the pages failed, `Corrupt` and `NoPage` only where these
+-- hold.
 pub record HasChainCause {T : Type 0} (Wrong Short : Type 0) (before now : ℕ) (is_sound : Bool) (result : Result T ChainFault) : Type 0 where
   pub pages : HasPagesCause Failed before now is_sound result
   pub corrupt : AtErr Corrupt result Wrong

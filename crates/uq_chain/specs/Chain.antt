@@ -3,7 +3,7 @@ use Rattle.std.specs.Prelude.{◌≡◌, ℕ, ◌+◌, ◌-◌, ◌*◌, ◌/◌
 use Rattle.std.specs.Option.{ForSome}
 use Rattle.uq_page.specs.declared.layout.TheConstants.{VALUE_AT, VALUE_ROOM}
 use Rattle.uq_page.specs.ValuePage.{value_page}
-use Rattle.uq_chain.specs.FreeList.{IsFreeList, Turned}
+use Rattle.uq_chain.specs.FreeList.{IsFreeList, Turned, Turns}
 use Rattle.uq_page.specs.Row.{IsRow}
 
 -- the bytes that each page of a chain holds: all that it can while there are so many
@@ -20,6 +20,14 @@ pub record IsChain (pages : List (List ℕ)) (first : ℕ) (row bytes : List ℕ
 -- P of the bytes, where the pages are told and a chain of so many bytes begins there
 abbrev pub WhereChain : Option (List (List ℕ)) → ℕ → ℕ → (List (List ℕ) → List ℕ → List ℕ → Type 0) → Type 0
 WhereChain told first len P = ForSome told (λ pages. (row bytes : List ℕ) → IsChain pages first row bytes → length bytes ≡ len → P pages row bytes)
+
+-- where the pages are told, the bytes of the chain were appended
+abbrev pub ReadsChain : Option (List (List ℕ)) → ℕ → ℕ → List ℕ → List ℕ → Type 0
+ReadsChain told first len old new = WhereChain told first len (λ pages row bytes. new ≡ old ++ bytes)
+
+-- where the pages are told and the free list is right, the pages of the chain were given up
+abbrev pub FreesChain : Option (List (List ℕ)) → Option (List (List ℕ)) → ℕ → ℕ → ℕ → ℕ → Type 0
+FreesChain old new head now first len = WhereChain old first len (λ pages row bytes. Turns old new head now row [])
 
 -- the pages that so many bytes need
 abbrev pub pages_for : ℕ → ℕ
@@ -60,3 +68,7 @@ NoChainOrFreeList told first len head = WhereChain told first len (λ pages row 
 abbrev pub Appends : Option (List (List ℕ)) → Option (List (List ℕ)) → ℕ → ℕ → ℕ → ℕ → List ℕ → Type 0
 Appends old new head now first len bytes = WhereChain old first len (λ before row held. (free : List ℕ) → IsFreeList before head free
     → ForSome new (λ after. IsAppended before after now free row first (held ++ bytes)))
+
+-- where the pages are told, this is the last page of the chain
+abbrev pub EndsChain : Option (List (List ℕ)) → ℕ → ℕ → ℕ → ℕ → List ℕ → Type 0
+EndsChain told first len at held page = WhereChain told first len (λ pages row bytes. IsTail pages row bytes at held page)

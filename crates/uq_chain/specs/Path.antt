@@ -26,7 +26,8 @@ abbrev pub IsPath : (List ℕ → ℕ → Type 0) → List (List ℕ) → ℕ �
 IsPath Is pages head [] last = head ≡ last
 IsPath Is pages head (n ∷ path) last = Step Is pages head n (λ next. IsPath Is pages next path last)
 
--- From one list of pages to the next at most these pages are others, of those that were there, and no page came to be of the kind.
+-- From one list of pages to the next at most the pages of one path are others, of those that were there, and no page came to be of the
+-- kind.
 pub record Along (Is : List ℕ → ℕ → Type 0) (before after : List (List ℕ)) (head last : ℕ) : Type 0 where
   -- pages of the kind that follow each other from `head` to `last`
   pub path : List ℕ
@@ -52,14 +53,15 @@ abbrev pub KeepsPages : Option (List (List ℕ)) → Option (List (List ℕ)) �
 KeepsPages old new = ForSome old (λ before. ForSome new (λ after. (n : ℕ) → n < length before → slice_get after n ≡ slice_get before n))
 
 -- the page is not free
-abbrev pub IsInUse : List ℕ → Type 0
-IsInUse page = (next : ℕ) → IsFreePage page next → ⊥
+abbrev pub IsNotFree : List ℕ → Type 0
+IsNotFree page = (next : ℕ) → IsFreePage page next → ⊥
 
 -- where the pages are told, those of a chain lead from `first` to this one
 abbrev pub ChainLeads : Option (List (List ℕ)) → ℕ → ℕ → Type 0
 ChainLeads told first last = ForSome told (λ pages. (path : List ℕ) × IsPath IsValuePage pages first path last)
 
--- From one list of pages to the next at most free pages from `head` on and pages of a chain from `first` on are others, of those that were there.
+-- From one list of pages to the next at most free pages from `head` on and pages of a chain from `first` on are others, of those that
+-- were there.
 pub record AlongBoth (before after : List (List ℕ)) (head first : ℕ) : Type 0 where
   pub free : List ℕ
   pub free_last : ℕ

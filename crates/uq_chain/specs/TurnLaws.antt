@@ -235,3 +235,11 @@ given_back pages head n (k ∷ row) fits some within free =
 -- the free list is one row
 pub one_list : (pages : List (List ℕ)) (head : ℕ) (row other : List ℕ) → IsFreeList pages head row → IsFreeList pages head other → row ≡ other
 one_list pages head row other is is' = one_row free_at free_tells pages head row row other other is is'
+
+-- a page that was just taken into use is not in the list
+pub taken_unlisted : (a b : List (List ℕ)) (head last n : ℕ) (row other : List ℕ) → IsFreeList a head row → Turned a b last row [] (n ∷ []) → IsFreeList b last other → times n other ≡ 0
+taken_unlisted a b head last n row other free first is =
+    let apart = taken_apart a b head last row (n ∷ []) n free first in
+    let self = times_self n in
+    let none : times n first.left ≡ 0 = omega arith in
+    ap (λ xs. times n xs) (sym (one_list b last first.left other first.free is)) ∙ none

@@ -6,8 +6,8 @@ ghost use Rattle.uq_page.specs.declared.layout.TheConstants.{VALUE_AT, VALUE_ROO
 ghost use Rattle.uq_page.specs.Page.{bytes_of};
 ghost use Rattle.uq_page.specs.ValuePage.{IsValueHead, value_page};
 ghost use Rattle.uq_chain.specs.Causes.{HasChainCause, NoFreeList, IsShort};
-ghost use Rattle.uq_chain.specs.Chain.{Appends, IsTail, NoChain, NoChainOrFreeList, WhereChain, Writes, pages_for};
-ghost use Rattle.uq_chain.specs.FreeList.{KeepsCount, KeepsHeader};
+ghost use Rattle.uq_chain.specs.Chain.{Appends, EndsChain, NoChain, NoChainOrFreeList, Writes, pages_for};
+ghost use Rattle.uq_chain.specs.FreeList.{GrowsLast, KeepsCount, KeepsHeader};
 ghost use Rattle.uq_chain.specs.Path.{ChainLeads, KeepsButBoth, KeepsButFree};
 
 use crate::chain::read_part;
@@ -25,7 +25,7 @@ struct Last {
 fn find_last<P: Pages>(p: &mut P, first: u32, len: u32, page: &mut Page) -> Result<Last, ChainFault>
     requires sound { P.is_sound p.old ≡ true }
     requires some { 1 ≤ len }
-    ensures tail { IfOk result (λ last. WhereChain (P.pages p.old) first len (λ pages row bytes. IsTail pages row bytes last.no last.head.held (bytes_of page.new))) }
+    ensures tail { IfOk result (λ last. EndsChain (P.pages p.old) first len last.no last.head.held (bytes_of page.new)) }
     ensures leads { IfOk result (λ last. ChainLeads (P.pages p.old) first last.no) }
     ensures page { IfOk result (λ last. ForSome (P.pages p.old) (λ pages. slice_get pages last.no ≡ Some (bytes_of page.new))) }
     ensures head { IfOk result (λ last. IsValueHead (bytes_of page.new) last.head) }
@@ -35,7 +35,8 @@ fn find_last<P: Pages>(p: &mut P, first: u32, len: u32, page: &mut Page) -> Resu
     ensures size { P.size p.new ≡ P.size p.old }
     ensures asked { P.asked p.new ≤ P.asked p.old + pages_for len }
     ensures reads { P.only_reads p.old p.new }
-    ensures cause { HasChainCause (NoChain (P.pages p.old) first len) ⊥ (P.faults p.old) (P.faults p.new) (P.is_sound p.new) result }
+    ensures cause { HasChainCause (NoChain (P.pages p.old) first len) ⊥
+        (P.faults p.old) (P.faults p.new) (P.is_sound p.new) result }
 {
     let mut no = first;
     let mut left = len;
@@ -70,6 +71,7 @@ fn write_rest<P: Pages>(p: &mut P, h: &mut Header, bytes: &[u8]) -> Result<u32, 
     requires sound { P.is_sound p.old ≡ true }
     requires some { 1 ≤ P.size p.old }
     ensures written { IfOk result (λ first. Writes (P.pages p.old) (P.pages p.new) h.old.free h.new.free first bytes.now) }
+    ensures grows { OnOk result (GrowsLast h.new.free (P.size p.old) (P.size p.new)) }
     ensures others { OnOk result (KeepsButFree (P.pages p.old) (P.pages p.new) h.old.free h.new.free) }
     ensures header { OnOk result (KeepsHeader h.old h.new) }
     ensures count { OnOk result (KeepsCount h.old h.new (P.size p.old) (P.size p.new)) }
@@ -77,7 +79,8 @@ fn write_rest<P: Pages>(p: &mut P, h: &mut Header, bytes: &[u8]) -> Result<u32, 
     ensures size { P.size p.old ≤ P.size p.new }
     ensures asked { P.asked p.new ≤ P.asked p.old + pages_for (length bytes.now) }
     ensures keeps { P.keeps p.old p.new }
-    ensures cause { HasChainCause (NoFreeList (P.pages p.old) h.old.free) (IsShort (P.pages p.old) h.old.free (P.size p.new) (pages_for (length bytes.now)))
+    ensures cause { HasChainCause (NoFreeList (P.pages p.old) h.old.free)
+        (IsShort (P.pages p.old) h.old.free (P.size p.new) (pages_for (length bytes.now)))
         (P.faults p.old) (P.faults p.new) (P.is_sound p.new) result }
 {
     if bytes.is_empty() {
@@ -100,6 +103,7 @@ pub fn append_chain<P: Pages>(
     requires some { 1 ≤ P.size p.old }
     requires len { 1 ≤ len }
     ensures appended { OnOk result (Appends (P.pages p.old) (P.pages p.new) h.old.free h.new.free first len bytes.now) }
+    ensures grows { OnOk result (GrowsLast h.new.free (P.size p.old) (P.size p.new)) }
     ensures others { OnOk result (KeepsButBoth (P.pages p.old) (P.pages p.new) h.old.free first) }
     ensures header { OnOk result (KeepsHeader h.old h.new) }
     ensures count { OnOk result (KeepsCount h.old h.new (P.size p.old) (P.size p.new)) }

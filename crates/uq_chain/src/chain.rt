@@ -6,8 +6,8 @@ ghost use Rattle.uq_page.specs.declared.layout.TheConstants.{VALUE_ROOM};
 ghost use Rattle.uq_page.specs.Page.{bytes_of};
 ghost use Rattle.uq_page.specs.ValuePage.{IsValueHead};
 ghost use Rattle.uq_chain.specs.Causes.{HasChainCause};
-ghost use Rattle.uq_chain.specs.Chain.{NoChain, NoChainOrFreeList, WhereChain, pages_for};
-ghost use Rattle.uq_chain.specs.FreeList.{KeepsHeader, Turns};
+ghost use Rattle.uq_chain.specs.Chain.{FreesChain, NoChain, NoChainOrFreeList, ReadsChain, pages_for};
+ghost use Rattle.uq_chain.specs.FreeList.{KeepsHeader};
 ghost use Rattle.uq_chain.specs.Path.{KeepsButChain};
 
 use crate::give_page;
@@ -31,7 +31,8 @@ pub(crate) fn read_part<P: Pages>(
     ensures size { P.size p.new ≡ P.size p.old }
     ensures asked { P.asked p.new ≤ P.asked p.old + 1 }
     ensures reads { P.only_reads p.old p.new }
-    ensures cause { 1 ≤ left → HasChainCause (NoChain (P.pages p.old) no left) ⊥ (P.faults p.old) (P.faults p.new) (P.is_sound p.new) result }
+    ensures cause { 1 ≤ left → HasChainCause (NoChain (P.pages p.old) no left) ⊥
+        (P.faults p.old) (P.faults p.new) (P.is_sound p.new) result }
 {
     if no == 0 || p.count() <= no {
         return Err(ChainFault::Corrupt);
@@ -56,13 +57,14 @@ fn read_onto<P: Pages>(
     into: &mut Vec<u8>,
 ) -> Result<(), ChainFault>
     requires { P.is_sound p.old ≡ true }
-    ensures read { OnOk result (WhereChain (P.pages p.old) first len (λ pages row bytes. into.new.items ≡ into.old.items ++ bytes)) }
+    ensures read { OnOk result (ReadsChain (P.pages p.old) first len into.old.items into.new.items) }
     ensures front { (some : List ℕ) × (into.new.items ≡ into.old.items ++ some) }
     ensures same { UnlessErr ChainFault.Failed result (P.pages p.new ≡ P.pages p.old) }
     ensures size { P.size p.new ≡ P.size p.old }
     ensures asked { P.asked p.new ≤ P.asked p.old + pages_for len }
     ensures reads { P.only_reads p.old p.new }
-    ensures cause { HasChainCause (NoChain (P.pages p.old) first len) ⊥ (P.faults p.old) (P.faults p.new) (P.is_sound p.new) result }
+    ensures cause { HasChainCause (NoChain (P.pages p.old) first len) ⊥
+        (P.faults p.old) (P.faults p.new) (P.is_sound p.new) result }
 {
     let mut page = Page::zero();
     let mut no = first;
@@ -88,14 +90,15 @@ pub fn read_chain<P: Pages>(
     into: &mut Vec<u8>,
 ) -> Result<(), ChainFault>
     requires { P.is_sound p.old ≡ true }
-    ensures read { OnOk result (WhereChain (P.pages p.old) first len (λ pages row bytes. into.new.items ≡ into.old.items ++ bytes)) }
+    ensures read { OnOk result (ReadsChain (P.pages p.old) first len into.old.items into.new.items) }
     ensures refused { OnErr result (into.new.items ≡ into.old.items) }
     ensures same { UnlessErr ChainFault.Failed result (P.pages p.new ≡ P.pages p.old) }
     ensures size { P.size p.new ≡ P.size p.old }
     ensures asked { P.asked p.new ≤ P.asked p.old + pages_for len }
     ensures reads { P.only_reads p.old p.new }
     ensures keeps { P.keeps p.old p.new }
-    ensures cause { HasChainCause (NoChain (P.pages p.old) first len) ⊥ (P.faults p.old) (P.faults p.new) (P.is_sound p.new) result }
+    ensures cause { HasChainCause (NoChain (P.pages p.old) first len) ⊥
+        (P.faults p.old) (P.faults p.new) (P.is_sound p.new) result }
 {
     // No memory is asked for on the word of a length that the pages cannot hold.
     if u64::from(len) > u64::from(p.count()) * VALUE_ROOM as u64 {
@@ -123,7 +126,7 @@ pub fn free_chain<P: Pages>(
     len: u32,
 ) -> Result<(), ChainFault>
     requires { P.is_sound p.old ≡ true }
-    ensures freed { OnOk result (WhereChain (P.pages p.old) first len (λ pages row bytes. Turns (P.pages p.old) (P.pages p.new) h.old.free h.new.free row [])) }
+    ensures freed { OnOk result (FreesChain (P.pages p.old) (P.pages p.new) h.old.free h.new.free first len) }
     ensures others { OnOk result (KeepsButChain (P.pages p.old) (P.pages p.new) first) }
     ensures header { OnOk result (KeepsHeader h.old h.new) }
     ensures count { OnOk result (h.new.pages ≡ h.old.pages) }

@@ -3,11 +3,10 @@ ghost use Rattle.std.specs.Prelude.{◌≡◌, ◌+◌, ◌≤◌, ◌<◌, ℕ,
 ghost use Rattle.std.specs.Option.{ForSome, option_map};
 ghost use Rattle.uq_facts.specs.Causes.{UnlessErr};
 ghost use Rattle.uq_page.specs.FreePage.{free_page, IsFreePage};
-ghost use Rattle.uq_page.specs.Numbers.{times};
 ghost use Rattle.uq_page.specs.Page.{bytes_of};
 ghost use Rattle.uq_chain.specs.Causes.{HasChainCause, NoFreeList, IsShort};
-ghost use Rattle.uq_chain.specs.FreeList.{IsFreeList, KeepsCount, KeepsHeader, Places, Turns, WasRight};
-ghost use Rattle.uq_chain.specs.Path.{IsInUse, IsPath, KeepsButFree, KeepsPages};
+ghost use Rattle.uq_chain.specs.FreeList.{IsTaken, IsUnlisted, KeepsCount, KeepsHeader, Places, Turns, WasRight};
+ghost use Rattle.uq_chain.specs.Path.{IsNotFree, IsPath, KeepsButFree, KeepsPages};
 
 use uq_page::{ChainFault, Header, Page, Pages, read_free, write_free};
 
@@ -24,11 +23,14 @@ fn grow_page<P: Pages>(p: &mut P, h: &mut Header, page: &Page) -> Result<u32, Ch
     ensures count { OnOk result (KeepsCount h.old h.new (P.size p.old) (P.size p.new)) }
     ensures told { UnlessErr ChainFault.Failed result (is_some (P.pages p.new) ≡ is_some (P.pages p.old)) }
     ensures size { P.size p.old ≤ P.size p.new }
+    ensures number_is { IfOk result (λ no. no ≡ P.size p.old) }
+    ensures larger { OnOk result (P.size p.new ≡ P.size p.old + 1) }
     ensures grown { OnOk result (P.pages p.new ≡ option_map (λ pages. pages ++ bytes_of page.now ∷ []) (P.pages p.old)) }
     ensures list { OnOk result (h.new.free ≡ h.old.free) }
     ensures asked { P.asked p.new ≡ P.asked p.old }
     ensures keeps { P.keeps p.old p.new }
-    ensures cause { HasChainCause (NoFreeList (P.pages p.old) h.old.free) (IsShort (P.pages p.old) h.old.free (P.size p.new) 1)
+    ensures cause { HasChainCause (NoFreeList (P.pages p.old) h.old.free)
+        (IsShort (P.pages p.old) h.old.free (P.size p.new) 1)
         (P.faults p.old) (P.faults p.new) (P.is_sound p.new) result }
 {
     if p.count() == u32::MAX {
@@ -54,7 +56,8 @@ fn pop_page<P: Pages>(p: &mut P, h: &mut Header) -> Result<u32, ChainFault>
     ensures size { P.size p.new ≡ P.size p.old }
     ensures asked { P.asked p.new ≤ P.asked p.old + 1 }
     ensures reads { P.only_reads p.old p.new }
-    ensures cause { HasChainCause (NoFreeList (P.pages p.old) h.old.free) ⊥ (P.faults p.old) (P.faults p.new) (P.is_sound p.new) result }
+    ensures cause { HasChainCause (NoFreeList (P.pages p.old) h.old.free) ⊥
+        (P.faults p.old) (P.faults p.new) (P.is_sound p.new) result }
 {
     let no = h.free;
     if p.count() <= no {
@@ -70,6 +73,7 @@ fn pop_page<P: Pages>(p: &mut P, h: &mut Header) -> Result<u32, ChainFault>
 pub fn take_page<P: Pages>(p: &mut P, h: &mut Header) -> Result<u32, ChainFault>
     requires sound { P.is_sound p.old ≡ true }
     requires some { 1 ≤ P.size p.old }
+    ensures first { IfOk result (λ no. IsTaken h.old.free h.new.free (P.size p.old) (P.size p.new) no) }
     ensures taken { IfOk result (λ no. Turns (P.pages p.old) (P.pages p.new) h.old.free h.new.free [] (no ∷ [])) }
     ensures others { OnOk result (KeepsPages (P.pages p.old) (P.pages p.new)) }
     ensures there { IfOk result (λ no. no < P.size p.new) }
@@ -80,7 +84,8 @@ pub fn take_page<P: Pages>(p: &mut P, h: &mut Header) -> Result<u32, ChainFault>
     ensures size { P.size p.old ≤ P.size p.new }
     ensures asked { P.asked p.new ≤ P.asked p.old + 1 }
     ensures keeps { P.keeps p.old p.new }
-    ensures cause { HasChainCause (NoFreeList (P.pages p.old) h.old.free) (IsShort (P.pages p.old) h.old.free (P.size p.new) 1)
+    ensures cause { HasChainCause (NoFreeList (P.pages p.old) h.old.free)
+        (IsShort (P.pages p.old) h.old.free (P.size p.new) 1)
         (P.faults p.old) (P.faults p.new) (P.is_sound p.new) result }
 {
     if h.free == 0 {
@@ -93,9 +98,10 @@ pub fn take_page<P: Pages>(p: &mut P, h: &mut Header) -> Result<u32, ChainFault>
 pub fn place_page<P: Pages>(p: &mut P, h: &mut Header, page: &Page) -> Result<u32, ChainFault>
     requires sound { P.is_sound p.old ≡ true }
     requires some { 1 ≤ P.size p.old }
+    ensures first { IfOk result (λ no. IsTaken h.old.free h.new.free (P.size p.old) (P.size p.new) no) }
     ensures taken { IfOk result (λ no. Turns (P.pages p.old) (P.pages p.new) h.old.free h.new.free [] (no ∷ [])) }
     ensures page { IfOk result (λ no. Places (P.pages p.old) (P.pages p.new) h.old.free no (bytes_of page.now)) }
-    ensures others { IsInUse (bytes_of page.now) → OnOk result (KeepsButFree (P.pages p.old) (P.pages p.new) h.old.free h.new.free) }
+    ensures others { IsNotFree (bytes_of page.now) → OnOk result (KeepsButFree (P.pages p.old) (P.pages p.new) h.old.free h.new.free) }
     ensures there { IfOk result (λ no. no < P.size p.new) }
     ensures number { IfOk result (λ no. 1 ≤ no) }
     ensures header { OnOk result (KeepsHeader h.old h.new) }
@@ -104,7 +110,8 @@ pub fn place_page<P: Pages>(p: &mut P, h: &mut Header, page: &Page) -> Result<u3
     ensures size { P.size p.old ≤ P.size p.new }
     ensures asked { P.asked p.new ≤ P.asked p.old + 1 }
     ensures keeps { P.keeps p.old p.new }
-    ensures cause { HasChainCause (NoFreeList (P.pages p.old) h.old.free) (IsShort (P.pages p.old) h.old.free (P.size p.new) 1)
+    ensures cause { HasChainCause (NoFreeList (P.pages p.old) h.old.free)
+        (IsShort (P.pages p.old) h.old.free (P.size p.new) 1)
         (P.faults p.old) (P.faults p.new) (P.is_sound p.new) result }
 {
     if h.free == 0 {
@@ -120,7 +127,7 @@ pub fn give_page<P: Pages>(p: &mut P, h: &mut Header, no: u32) -> Result<(), Cha
     requires sound { P.is_sound p.old ≡ true }
     requires number { 1 ≤ no }
     requires there { no < P.size p.old }
-    requires used { ForSome (P.pages p.old) (λ pages. (row : List ℕ) → IsFreeList pages h.old.free row → times no row ≡ 0) }
+    requires used { IsUnlisted (P.pages p.old) h.old.free no }
     ensures given { OnOk result (Turns (P.pages p.old) (P.pages p.new) h.old.free h.new.free (no ∷ []) []) }
     ensures right { OnOk result (WasRight (P.pages p.old) (P.pages p.new) h.old.free h.new.free) }
     ensures page { OnOk result (P.pages p.new ≡ option_map (λ pages. slice_set pages no (free_page h.old.free)) (P.pages p.old)) }

@@ -6,7 +6,7 @@ ghost use Rattle.uq_page.specs.Page.{bytes_of};
 ghost use Rattle.uq_page.specs.ValuePage.{value_page};
 ghost use Rattle.uq_chain.specs.Causes.{HasChainCause, NoFreeList, IsShort};
 ghost use Rattle.uq_chain.specs.Chain.{Writes, pages_for};
-ghost use Rattle.uq_chain.specs.FreeList.{KeepsCount, KeepsHeader};
+ghost use Rattle.uq_chain.specs.FreeList.{GrowsLast, KeepsCount, KeepsHeader};
 ghost use Rattle.uq_chain.specs.Path.{KeepsButFree};
 
 use crate::place_page;
@@ -36,6 +36,7 @@ pub fn write_chain<P: Pages>(p: &mut P, h: &mut Header, bytes: &[u8]) -> Result<
     requires piece { 1 ≤ length bytes.now }
     ensures written { IfOk result (λ first. Writes (P.pages p.old) (P.pages p.new) h.old.free h.new.free first bytes.now) }
     ensures others { OnOk result (KeepsButFree (P.pages p.old) (P.pages p.new) h.old.free h.new.free) }
+    ensures grows { OnOk result (GrowsLast h.new.free (P.size p.old) (P.size p.new)) }
     ensures number { IfOk result (λ first. 1 ≤ first) }
     ensures header { OnOk result (KeepsHeader h.old h.new) }
     ensures count { OnOk result (KeepsCount h.old h.new (P.size p.old) (P.size p.new)) }
@@ -43,7 +44,8 @@ pub fn write_chain<P: Pages>(p: &mut P, h: &mut Header, bytes: &[u8]) -> Result<
     ensures size { P.size p.old ≤ P.size p.new }
     ensures asked { P.asked p.new ≤ P.asked p.old + pages_for (length bytes.now) }
     ensures keeps { P.keeps p.old p.new }
-    ensures cause { HasChainCause (NoFreeList (P.pages p.old) h.old.free) (IsShort (P.pages p.old) h.old.free (P.size p.new) (pages_for (length bytes.now)))
+    ensures cause { HasChainCause (NoFreeList (P.pages p.old) h.old.free)
+        (IsShort (P.pages p.old) h.old.free (P.size p.new) (pages_for (length bytes.now)))
         (P.faults p.old) (P.faults p.new) (P.is_sound p.new) result }
 {
     // From the last page to the first, so that each page can name the next.

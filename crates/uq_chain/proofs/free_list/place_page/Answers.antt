@@ -1,7 +1,8 @@
+use Rattle.std.proofs.Common.{◌∙◌}
 use Rattle.uq_page.specs.Page.{bytes_of}
 use Rattle.uq_page.specs.FreePage.{IsFreePage}
 use Rattle.uq_chain.specs.CauseLaws.{not_err}
-use Rattle.uq_chain.proofs.KeepLemmas.{keeps_appended, keeps_set, on_both}
+use Rattle.uq_chain.proofs.KeepLemmas.{keeps_appended, keeps_set, on_both, taken_new}
 use Rattle.uq_chain.proofs.ToldLemmas.{turns_placed, placed_there}
 use Rattle.uq_chain.proofs.free_list.place_page.Goals as goal
 
@@ -24,3 +25,14 @@ pub returns-then-h-eq0-clause-others : goal.returns-then-h-eq0-clause-others
 returns-then-h-eq0-clause-others g c used =
     on_both c.grow_page.result (keeps_appended (g.P.Pages.pages c.args.p.now) (g.P.Pages.pages c.grow_page.new.p) c.args.h.now.free c.grow_page.new.h.free (bytes_of c.args.page.now) used)
     c.grow_page.ensures.grown c.grow_page.ensures.list
+
+pub returns-then-h-eq0-clause-first : goal.returns-then-h-eq0-clause-first
+returns-then-h-eq0-clause-first g c =
+    taken_new c.grow_page.result c.args.h.now.free c.grow_page.new.h.free (g.P.Pages.size c.args.p.now) (g.P.Pages.size c.grow_page.new.p) c.if-h-eq0.true
+    c.grow_page.ensures.number_is c.grow_page.ensures.larger c.grow_page.ensures.list
+
+pub returns-clause-first : goal.returns-clause-first
+returns-clause-first g c = record {
+  listed = λ some. (c.in_ok-no.ensures.first, c.in_ok-write_page.ensures.size ∙ c.in_ok-no.ensures.size);
+  grown = λ none. absurd (c.if-h-eq0.false none);
+}

@@ -1,12 +1,12 @@
-use Rattle.std.proofs.Common.{◌≡◌, ◌-◌, ◌*◌, ◌/◌, Err, Some, List, ℕ, length, take, drop, refl, sym, ap, subst, ◌∙◌, arith}
+use Rattle.std.proofs.Common.{◌≡◌, ◌-◌, ◌*◌, ◌/◌, Err, Some, List, ℕ, length, take, drop, inl, refl, sym, ap, subst, ◌∙◌, arith}
 use Rattle.std.proofs.lemmas.Result.{err_from_is_err_and}
 use Rattle.uq_chain.specs.Chain.{IsWritten, pages_for}
 use Rattle.uq_chain.specs.Causes.{NoFreeList, IsShort}
 use Rattle.uq_chain.specs.CauseLaws.{handed_on, not_err}
 use Rattle.uq_chain.specs.TurnLaws.{header_itself, header_on}
 use Rattle.uq_page.specs.FreePage.{IsFreePage}
-use Rattle.uq_chain.specs.Path.{IsInUse}
-use Rattle.uq_chain.proofs.KeepLemmas.{keeps_none, keeps_then, value_in_use}
+use Rattle.uq_chain.specs.Path.{IsNotFree}
+use Rattle.uq_chain.proofs.KeepLemmas.{grows_on, keeps_none, keeps_then, value_in_use}
 use Rattle.uq_chain.proofs.WriteLemmas.{cut_all, cut_next, written_none, written_more, too_few}
 use Rattle.uq_chain.proofs.ToldLemmas.{told_same, told_still}
 use Rattle.uq_chain.proofs.writing.write_chain.Goals as goal
@@ -20,6 +20,7 @@ loop-end-init g c = record {
   keeps = g.met.P.Pages.keeps_itself _;
   quiet = refl;
   header = header_itself c.args.h.now;
+  grows = inl refl;
   others = keeps_none IsFreePage (g.P.Pages.pages c.args.p.now) (g.P.Pages.pages c.args.p.now) c.args.h.now.free refl;
   count = λ was. was;
   fits = omega arith;
@@ -74,9 +75,11 @@ loop-end-preserved g c =
       keeps = g.met.P.Pages.keeps_on _ _ _ c.loop-end.invariant.keeps c.in_ok-next.ensures.keeps;
       quiet = c.in_ok-next.ensures.cause.pages.quiet (not_err _ _) ∙ c.loop-end.invariant.quiet;
       header = header_on _ _ _ c.loop-end.invariant.header c.in_ok-next.ensures.header;
+      grows = grows_on c.args.h.now.free c.loop-end.h.free c.place_page.new.h.free (g.P.Pages.size c.args.p.now) (g.P.Pages.size c.loop-end.p) (g.P.Pages.size c.place_page.new.p) c.in_ok-next.next
+          c.loop-end.invariant.grows c.in_ok-next.ensures.first;
       others = keeps_then IsFreePage (g.P.Pages.pages c.args.p.now) (g.P.Pages.pages c.loop-end.p) (g.P.Pages.pages c.place_page.new.p) c.args.h.now.free c.loop-end.h.free c.place_page.new.h.free
           c.loop-end.invariant.told c.loop-end.invariant.others
-          (c.in_ok-next.ensures.others (subst IsInUse (sym c.page_of-page.ensures) (value_in_use (take (stop - (stop - 1) / 4080 * 4080) (drop ((stop - 1) / 4080 * 4080) c.args.bytes.now)) c.loop-end.next)));
+          (c.in_ok-next.ensures.others (subst IsNotFree (sym c.page_of-page.ensures) (value_in_use (take (stop - (stop - 1) / 4080 * 4080) (drop ((stop - 1) / 4080 * 4080) c.args.bytes.now)) c.loop-end.next)));
       count = λ was. c.in_ok-next.ensures.count (c.loop-end.invariant.count was);
       fits = omega arith;
       pages = c.loop-end.invariant.pages - 1;

@@ -1,7 +1,7 @@
 use Rattle.std.proofs.Common.{◌≡◌, ◌+◌, ◌≤◌, ◌<◌, ◌^◌, ℕ, List, drop, true, is_some, length}
 use Rattle.std.specs.Option.{ForSome}
 use Rattle.uq_chain.specs.Chain.{IsWritten, pages_for}
-use Rattle.uq_chain.specs.FreeList.{IsFreeList, KeepsHeader, KeepsCount}
+use Rattle.uq_chain.specs.FreeList.{GrowsLast, IsFreeList, KeepsHeader, KeepsCount}
 use Rattle.uq_chain.specs.Path.{KeepsButFree}
 use Rattle.uq_chain.proofs.WriteLemmas.{Cut}
 use Rattle.uq_chain.proofs.writing.write_chain.Given as goal
@@ -15,6 +15,7 @@ invariant-loop-end g l = record {
   keeps : g.P.Pages.keeps l.fn.p l.p;
   quiet : g.P.Pages.faults l.p ≡ g.P.Pages.faults l.fn.p;
   header : KeepsHeader l.fn.h l.h;
+  grows : GrowsLast l.h.free (g.P.Pages.size l.fn.p) (g.P.Pages.size l.p);
   others : KeepsButFree (g.P.Pages.pages l.fn.p) (g.P.Pages.pages l.p) l.fn.h.free l.h.free;
   count : KeepsCount l.fn.h l.h (g.P.Pages.size l.fn.p) (g.P.Pages.size l.p);
   fits : l.next < 2 ^ 32;
