@@ -3,6 +3,8 @@ use Rattle.std.specs.Prelude.{◌≡◌, ℕ, ◌*◌, List, [], ◌∷◌, ◌+
 use Rattle.std.specs.List.{All}
 use Rattle.uq_page.specs.declared.layout.TheConstants.{PAGE_SIZE}
 use Rattle.uq_journal.specs.declared.format.TheConstants.{OPEN}
+use Rattle.uq_outside.specs.Files.{Files}
+use Rattle.uq_journal.specs.Calls.{HasPages}
 use Rattle.uq_journal.specs.Pages.{IsWhole, joined, pages_of}
 use Rattle.uq_journal.specs.Recovered.{recovered}
 
@@ -13,6 +15,10 @@ PagesAreBytes = (main : List ℕ) (pages : List (List ℕ)) → pages_of main �
 -- bytes of whole pages have these pages
 abbrev pub BytesArePages : Type 0
 BytesArePages = (pages : List (List ℕ)) → All IsWhole pages → pages_of (joined pages) ≡ Some pages
+
+-- a main file of so many pages has their number
+abbrev pub LengthsArePages : Type 0
+LengthsArePages = (count : ℕ) (files : Files) → length files.main ≡ PAGE_SIZE * count → HasPages count files
 
 -- each page is whole
 abbrev pub PagesAreWhole : Type 0
