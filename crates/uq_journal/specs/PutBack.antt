@@ -58,6 +58,14 @@ pub record IsPutBack {D : Type 0} (g : Ghosts D) (start : D) (files : Files) (di
   pub covered : (i : ℕ) → Covers (originals_all (batches_at at files.journal)) i → Covers (originals_of_journal files) i
   pub steps : Steps g (InPages (originals_of_journal files)) start disk
 
--- a run that puts back all originals of what is told
+-- a run that writes these originals of what is told, and nothing else
+abbrev pub PutsBackAt : {D : Type 0} → Ghosts D → ℕ → ℕ → D → D → Type 0
+PutsBackAt g n at old new = ForSome (g.content old) (λ files. Steps g (InPages (originals_at n at files)) old new)
+
+-- a run that writes all of them
+abbrev pub PutsEachBack : {D : Type 0} → Ghosts D → D → D → Type 0
+PutsEachBack g old new = ForSome (g.content old) (λ files. Steps g (InPages (originals_of_journal files)) old new)
+
+-- and cuts the main file to its old page count
 abbrev pub PutsAllBack : {D : Type 0} → Ghosts D → ℕ → D → D → Type 0
 PutsAllBack g old_pages old new = ForSome (g.content old) (λ files. Steps g (PutsBack (PAGE_SIZE * old_pages) (originals_of_journal files)) old new)

@@ -4,13 +4,13 @@ ghost use Rattle.std.specs.Option.{ForSome};
 ghost use Rattle.uq_outside.specs.declared.fault.FileNo.TheVariants.{Main};
 ghost use Rattle.uq_facts.specs.Causes.{HasCause};
 ghost use Rattle.uq_outside.specs.Stops.{ToldAlike};
-ghost use Rattle.uq_outside.specs.Since.{IsSettledIn, Steps};
+ghost use Rattle.uq_outside.specs.Since.{IsSettledIn};
 ghost use Rattle.uq_page.specs.declared.layout.TheConstants.{PAGE_SIZE};
 ghost use Rattle.uq_journal.specs.declared.format.TheConstants.{ORIGINAL_SIZE};
 ghost use Rattle.uq_journal.specs.Batches.{number};
-ghost use Rattle.uq_journal.specs.Steps.{Becomes, InPages};
-ghost use Rattle.uq_journal.specs.PutBack.{put_from, put_all, put_whole, originals_at, originals_of_journal};
-ghost use Rattle.uq_journal.specs.PutBack.{BeginWithin, ArePuttable, PutsAllBack};
+ghost use Rattle.uq_journal.specs.Steps.{Becomes};
+ghost use Rattle.uq_journal.specs.PutBack.{put_from, put_all, put_whole, originals_at};
+ghost use Rattle.uq_journal.specs.PutBack.{BeginWithin, ArePuttable, PutsAllBack, PutsBackAt, PutsEachBack};
 
 use crate::format::{HEAD_SIZE, ORIGINAL_SIZE, PAGE_BYTES};
 use crate::reading::{Found, read_gate, read_number};
@@ -24,7 +24,7 @@ fn put_original<D: Disk>(disk: &mut D, at: u64) -> Result<(), DiskFault>
     requires begins { ForSome (D.content disk.old) (λ files. PAGE_SIZE * number (drop at files.journal) ≤ length files.main) }
     ensures put { Becomes D.Disk (put_from 1 at) disk.old disk.new result }
     ensures alike { ToldAlike (D.content disk.old) (D.content disk.new) }
-    ensures steps { ForSome (D.content disk.old) (λ files. Steps D.Disk (InPages (originals_at 1 at files)) disk.old disk.new) }
+    ensures steps { PutsBackAt D.Disk 1 at disk.old disk.new }
     ensures cause { HasCause (D.faults disk.old) (D.faults disk.new) result }
 {
     let no = read_number(disk, at)?;
@@ -40,7 +40,7 @@ fn put_batch<D: Disk>(disk: &mut D, from: u64, count: u32) -> Result<(), DiskFau
     requires begin { ForSome (D.content disk.old) (λ files. BeginWithin (length files.main) (originals_at count from files)) }
     ensures put { Becomes D.Disk (put_from count from) disk.old disk.new result }
     ensures alike { ToldAlike (D.content disk.old) (D.content disk.new) }
-    ensures steps { ForSome (D.content disk.old) (λ files. Steps D.Disk (InPages (originals_at count from files)) disk.old disk.new) }
+    ensures steps { PutsBackAt D.Disk count from disk.old disk.new }
     ensures cause { HasCause (D.faults disk.old) (D.faults disk.new) result }
 {
     for i in 0..count {
@@ -55,7 +55,7 @@ fn put_batches<D: Disk>(disk: &mut D, len: u64) -> Result<(), DiskFault>
     requires puttable { ForSome (D.content disk.old) (λ files. ArePuttable (length files.main) 0 files.journal) }
     ensures put { Becomes D.Disk put_all disk.old disk.new result }
     ensures alike { ToldAlike (D.content disk.old) (D.content disk.new) }
-    ensures steps { ForSome (D.content disk.old) (λ files. Steps D.Disk (InPages (originals_of_journal files)) disk.old disk.new) }
+    ensures steps { PutsEachBack D.Disk disk.old disk.new }
     ensures cause { HasCause (D.faults disk.old) (D.faults disk.new) result }
 {
     let mut at = 0;
