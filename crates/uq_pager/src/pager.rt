@@ -77,4 +77,27 @@ impl<'d, D: Disk> Pager<'d, D> {
         prove!(few);
         held as u32
     }
+
+    /// Gives the disk back. What was not committed is gone. A caller that lent the disk knows it then; of one whose pager
+    /// is dropped in its place the contracts say nothing.
+    pub fn into_disk(self) -> &'d mut D
+        ensures same_reference { result.ghost_name ≡ self.entry.disk.ghost_name }
+        ensures disk { result.now ≡ self.entry.disk.now }
+    {
+        let Pager {
+            disk,
+            journal,
+            saved: _,
+            count: _,
+            clean,
+            changes,
+            is_begun: _,
+            is_sound: _,
+            asked: _,
+        } = self;
+        drop(journal);
+        drop(clean);
+        drop(changes);
+        disk
+    }
 }

@@ -1,9 +1,10 @@
 //! A pager over a disk in memory: what is held, and where it may be stopped.
-ghost use Rattle.std.specs.Prelude.{◌≡◌, true, List, ℕ, Some};
+ghost use Rattle.std.specs.Prelude.{◌≡◌, true, OnOk, List, ℕ, Some};
+ghost use Rattle.std.specs.Option.{ForSome};
+ghost use Rattle.uq_journal.specs.Calls.{recovered_pages};
 ghost use Rattle.uq_pager.specs.Paged.{Commits};
-ghost use Rattle.uq_pager.specs.Pager.{IsSound, committed_pages};
 
-use crate::Pager;
+use crate::{Pager, PagerFault, recover};
 use std::alloc::Global;
 use std::test::Fail;
 use uq_outside::{Disk, FileNo, MemDisk};
@@ -40,22 +41,21 @@ fn grow_and_rewrite<P: Pages>(pages: &mut P, times: u32) -> Result<(), PagesFaul
     Ok(())
 }
 
-/// Under such a layer the committed pages stay on the disk, whatever it answers.
-fn change_pages<'d, D: Disk>(pager: &mut Pager<'d, D>, times: u32) -> Result<(), PagesFault>
-    requires { IsSound D.Disk pager.old }
-    ensures { (pages : List (List ℕ)) → committed_pages D.Disk pager.old ≡ Some pages → Commits D.Disk pager.new.disk.now pages }
+/// Under such a layer the committed pages stay, and whoever lent the disk knows them at the end.
+fn change_and_drop<D: Disk>(alloc: Global, disk: &mut D, times: u32) -> Result<(), PagerFault>
+    ensures { OnOk result (ForSome (D.content disk.old) (λ start. (pages : List (List ℕ)) → recovered_pages start ≡ Some pages → Commits D.Disk disk.new pages)) }
 {
-    grow_and_rewrite(pager, times)
+    let ready = recover(alloc, disk, 64)?;
+    let mut pager = Pager::over(disk, ready);
+    let _changed = grow_and_rewrite(&mut pager, times);
+    let _disk = pager.into_disk();
+    Ok(())
 }
 
 #[test]
 fn pages_that_were_not_committed_are_gone(rt: HostRuntime) -> Result<(), Fail> {
     let mut disk = MemDisk::new(rt.alloc(), b"", b"", &[])?;
-    {
-        let mut pager = Pager::open(rt.alloc(), &mut disk, 64)?;
-        change_pages(&mut pager, 3)?;
-        assert_eq!(rt; pager.count(), 3);
-    }
+    change_and_drop(rt.alloc(), &mut disk, 3)?;
     assert_eq!(rt; disk.file(FileNo::Main), b"".as_slice());
     Ok(())
 }
