@@ -1,5 +1,5 @@
 -- What a commit leaves of a pager.
-use Rattle.std.proofs.Common.{◌≡◌, ◌⊎◌, ℕ, ◌*◌, ◌<◌, ◌≤◌, Bool, true, false, List, [], ◌∷◌, length, Option, Some, None, refl, sym, ap, subst, ◌∙◌, inl, inr, arith}
+use Rattle.std.proofs.Common.{◌≡◌, ℕ, Bool, true, false, List, [], ◌∷◌, length, Option, Some, None, refl, sym, ap, subst, ◌∙◌, inl, arith}
 use Rattle.std.specs.Prelude.{slice_get, ⊤}
 use Rattle.std.specs.Option.{ForSome, option_map, option_and_then}
 use Rattle.std.specs.Map.{keys_of}
@@ -7,13 +7,10 @@ use Rattle.std.proofs.lemmas.List.{nil_from_length}
 use Rattle.uq_outside.specs.declared.disk.Disk.{Ghosts}
 use Rattle.uq_outside.specs.Files.{Files}
 use Rattle.uq_outside.specs.Since.{LeavesOnly, Laws}
-use Rattle.uq_outside.specs.SinceLaws.{started, told_back, weaker}
+use Rattle.uq_outside.specs.SinceLaws.{started, told_back}
 use Rattle.uq_outside.specs.Stops.{ToldAlike}
-use Rattle.uq_page.specs.Page.{bytes_of}
-use Rattle.uq_page.specs.declared.page.Page.{Page}
-use Rattle.uq_page.specs.declared.layout.TheConstants.{PAGE_SIZE}
 use Rattle.uq_journal.specs.Batches.{Original}
-use Rattle.uq_journal.specs.Calls.{HasPages, IsAtRest, LeavesOldPagesOrNew, PagesWritten, RecoversToEither, Rests, WritesPages, recovered_pages}
+use Rattle.uq_journal.specs.Calls.{HasPages, LeavesOldPagesOrNew, PagesWritten, Rests, WritesPages, recovered_pages}
 use Rattle.uq_journal.specs.Pages.{pages_of, with_batch}
 use Rattle.uq_journal.specs.PagesLaws.{has_pages}
 use Rattle.uq_journal.specs.Recovered.{Ascends, changes, numbers}
@@ -21,10 +18,10 @@ use Rattle.uq_journal.specs.declared.dirty.Dirty.{Dirty}
 use Rattle.uq_pager.specs.declared.pager.Pager.{Pager}
 use Rattle.uq_pager.specs.BatchLaws.{after_least, get_other, length_batch}
 use Rattle.uq_pager.specs.Changes.{batch_of}
-use Rattle.uq_pager.specs.Clean.{AreBelow, AreOf, clean_of}
-use Rattle.uq_pager.specs.Paged.{Commits, Paged, RecoversToOne, committed, paged_by, pages_on, rolled_back, told_while}
+use Rattle.uq_pager.specs.Clean.{AreBelow, AreOf}
+use Rattle.uq_pager.specs.Paged.{Commits, Paged, RecoversToOne, committed, paged_by, pages_on, told_while}
 use Rattle.uq_pager.specs.Pager.{paged}
-use Rattle.uq_pager.specs.PagerLaws.{Stands, pages_parts, stands, told_parts}
+use Rattle.uq_pager.specs.PagerLaws.{pages_parts, stands, told_parts}
 use Rattle.uq_pager.proofs.Reading.{main_size, unchanged}
 
 numbers_changes : (dirty : List Dirty) → keys_of (changes dirty) ≡ numbers dirty

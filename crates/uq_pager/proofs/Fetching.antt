@@ -1,5 +1,5 @@
 -- What a read of the disk leaves of a pager.
-use Rattle.std.proofs.Common.{◌≡◌, ◌≢◌, ◌⊎◌, ℕ, ◌+◌, ◌-◌, ◌<◌, ◌≤◌, Bool, true, false, List, [], ◌∷◌, ◌++◌, length, take, nat_eq, Option, Some, None, Result, Ok, Err, OnOk, OnErr, refl, sym, ap, subst, ◌∙◌, ⊎_elim, inl, inr, arith, length-append}
+use Rattle.std.proofs.Common.{◌≡◌, ◌≢◌, ◌⊎◌, ℕ, ◌+◌, ◌-◌, ◌<◌, ◌≤◌, Bool, true, false, length, take, nat_eq, Option, Some, None, Result, Ok, Err, OnOk, OnErr, refl, sym, ap, ◌∙◌, ⊎_elim, inl, inr, arith, length-append}
 use Rattle.std.specs.Prelude.{◌||◌, slice_get, is_some}
 use Rattle.std.specs.Option.{ForSome, option_and_then}
 use Rattle.std.specs.Map.{keys_of}
@@ -8,18 +8,16 @@ use Rattle.std.proofs.lemmas.List.{take_all, length-map}
 use Rattle.lru.specs.LruCache.{LruCache, lru_cache, put_entries}
 use Rattle.uq_outside.specs.declared.disk.Disk.{Ghosts}
 use Rattle.uq_outside.specs.Files.{Files}
-use Rattle.uq_outside.specs.Since.{After, Laws}
-use Rattle.uq_outside.specs.SinceLaws.{still_steps}
-use Rattle.uq_outside.specs.Stops.{Elapses, Only}
+use Rattle.uq_outside.specs.Stops.{Only}
 use Rattle.uq_page.specs.Page.{bytes_of}
 use Rattle.uq_page.specs.declared.page.Page.{Page}
-use Rattle.uq_journal.specs.Calls.{IsAtRest, RecoversAs}
+use Rattle.uq_journal.specs.Calls.{IsAtRest}
 use Rattle.uq_journal.specs.Pages.{pages_of}
 use Rattle.uq_pager.specs.declared.pager.Pager.{Pager}
 use Rattle.uq_pager.specs.Changes.{batch_of}
 use Rattle.uq_pager.specs.Clean.{clean_of}
 use Rattle.uq_pager.specs.Paged.{pages_on}
-use Rattle.uq_pager.specs.Pager.{held_numbers, is_held}
+use Rattle.uq_pager.specs.Pager.{held_numbers}
 use Rattle.uq_pager.specs.Places.{entry_of}
 use Rattle.uq_pager.proofs.Cleaning.{clean_head, clean_tail, put_new}
 use Rattle.uq_pager.proofs.Reading.{CleanHolds, holds_new, holds_same}

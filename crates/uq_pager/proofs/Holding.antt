@@ -1,5 +1,5 @@
 -- How many pages are held.
-use Rattle.std.proofs.Common.{◌≡◌, ◌≢◌, ◌⊎◌, ℕ, ◌+◌, ◌<◌, ◌≤◌, max, Bool, true, false, cond, List, [], ◌∷◌, ◌++◌, length, nat_eq, Some, None, refl, sym, ap, subst, ◌∙◌, ⊎_elim, inl, inr, arith}
+use Rattle.std.proofs.Common.{◌≡◌, ◌≢◌, ◌⊎◌, ℕ, ◌+◌, ◌<◌, ◌≤◌, max, Bool, true, false, List, [], ◌∷◌, ◌++◌, length, nat_eq, Some, None, refl, sym, ap, subst, ◌∙◌, ⊎_elim, inl, inr, arith}
 use Rattle.std.specs.Prelude.{◌||◌}
 use Rattle.std.specs.List.{AllByRecursion, IsDistinct, list_any}
 use Rattle.std.specs.List.Sorted.{IsStrictlySortedBy}
@@ -20,7 +20,7 @@ use Rattle.uq_pager.specs.Clean.{clean_of}
 use Rattle.uq_pager.specs.Pager.{held_numbers}
 use Rattle.uq_pager.specs.Places.{bytes_at, entry_of}
 use Rattle.uq_pager.specs.PlacesLaws.{Sorted, all_weaker, each_found, keys_map}
-use Rattle.uq_pager.proofs.Cleaning.{clean_head, clean_tail, other_number, same_number}
+use Rattle.uq_pager.proofs.Cleaning.{clean_head, clean_tail, other_number}
 
 -- ---- the numbers of a batch
 

@@ -1,19 +1,18 @@
 -- What an opening leaves.
-use Rattle.std.proofs.Common.{◌≡◌, ℕ, ◌*◌, ◌<◌, ◌≤◌, ◌^◌, Bool, true, false, List, [], ◌∷◌, length, Option, Some, None, refl, sym, ap, subst, ◌∙◌, arith}
+use Rattle.std.proofs.Common.{◌≡◌, ℕ, ◌*◌, ◌<◌, ◌^◌, false, List, [], length, Option, Some, None, refl, sym, ap, subst, ◌∙◌}
 use Rattle.std.specs.Prelude.{⊤}
 use Rattle.std.specs.Option.{ForSome, option_map, option_and_then}
 use Rattle.uq_outside.specs.declared.disk.Disk.{Ghosts}
 use Rattle.uq_outside.specs.Files.{Files}
-use Rattle.uq_outside.specs.SinceLaws.{told_back, told_some}
+use Rattle.uq_outside.specs.SinceLaws.{told_some}
 use Rattle.uq_outside.specs.Stops.{Only, ToldAlike}
 use Rattle.uq_page.specs.declared.layout.TheConstants.{PAGE_SIZE}
-use Rattle.uq_journal.specs.Calls.{HoldsRecovered, IsAtRest, RecoversToNothing, Rests, recovered_pages}
-use Rattle.uq_journal.specs.Pages.{pages_of, with_batch}
-use Rattle.uq_journal.specs.PagesLaws.{has_pages, these_pages}
-use Rattle.uq_journal.specs.Recovered.{recovered}
+use Rattle.uq_journal.specs.Calls.{HoldsRecovered, RecoversToNothing, Rests, recovered_pages}
+use Rattle.uq_journal.specs.Pages.{pages_of}
+use Rattle.uq_journal.specs.PagesLaws.{has_pages}
 use Rattle.uq_journal.specs.Batches.{Original}
-use Rattle.uq_pager.specs.Opening.{IsNoDatabase, IsReady, RecoversToCount, RestsAt, just_opened}
-use Rattle.uq_pager.specs.Paged.{paged_by, pages_on, told_while}
+use Rattle.uq_pager.specs.Opening.{IsNoDatabase, RecoversToCount, RestsAt, just_opened}
+use Rattle.uq_pager.specs.Paged.{paged_by, pages_on}
 use Rattle.uq_pager.proofs.Fetching.{rest_still}
 use Rattle.uq_pager.proofs.Reading.{main_size}
 

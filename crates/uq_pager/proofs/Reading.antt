@@ -1,18 +1,15 @@
 -- What a pager reads.
-use Rattle.std.proofs.Common.{◌≡◌, ◌≢◌, ◌⊎◌, ℕ, zero, suc, ◌+◌, ◌-◌, ◌*◌, ◌<◌, ◌≤◌, Bool, true, false, List, [], ◌∷◌, ◌++◌, length, take, drop, nat_eq, Option, Some, None, refl, sym, ap, subst, ◌∙◌, ⊎_elim, arith}
+use Rattle.std.proofs.Common.{◌≡◌, ◌≢◌, ℕ, zero, suc, ◌+◌, ◌*◌, ◌<◌, ◌≤◌, Bool, true, false, List, [], ◌∷◌, ◌++◌, length, take, drop, Option, Some, None, refl, sym, ap, subst, ◌∙◌, ⊎_elim, arith}
 use Rattle.std.specs.Prelude.{◌||◌, slice_get, is_some}
-use Rattle.std.specs.Option.{ForSome, option_map, option_and_then}
-use Rattle.std.specs.Map.{keys_of}
+use Rattle.std.specs.Option.{ForSome, option_map}
 use Rattle.std.proofs.lemmas.Bool.{cases_eq}
-use Rattle.std.proofs.lemmas.List.{take_at, drop_at}
+use Rattle.std.proofs.lemmas.List.{take_at}
 use Rattle.std.proofs.Math.Seq.{drop-append-add}
 use Rattle.uq_outside.specs.declared.disk.Disk.{Ghosts}
-use Rattle.uq_outside.specs.Files.{Files}
 use Rattle.uq_page.specs.Page.{bytes_of}
 use Rattle.uq_page.specs.declared.page.Page.{Page}
 use Rattle.uq_page.specs.declared.layout.TheConstants.{PAGE_SIZE}
-use Rattle.uq_journal.specs.Batches.{Original}
-use Rattle.uq_journal.specs.Pages.{joined, pages_of, with_batch}
+use Rattle.uq_journal.specs.Pages.{joined, pages_of}
 use Rattle.uq_journal.specs.PagesLaws.{AreWhole, these_pages}
 use Rattle.uq_pager.specs.declared.pager.Pager.{Pager}
 use Rattle.uq_pager.specs.BatchLaws.{get_here, get_other, was_there}
@@ -20,7 +17,7 @@ use Rattle.uq_pager.specs.Changes.{batch_of}
 use Rattle.uq_pager.specs.Clean.{AreApart, AreBelow, AreOf, clean_of}
 use Rattle.uq_pager.specs.Paged.{pages_on}
 use Rattle.uq_pager.specs.Pager.{is_held, present}
-use Rattle.uq_pager.specs.PagerLaws.{Stands, pages_parts, present_parts, stands}
+use Rattle.uq_pager.specs.PagerLaws.{present_parts, stands}
 use Rattle.uq_pager.specs.Places.{entry_of}
 use Rattle.uq_pager.proofs.Cleaning.{clean_head, clean_tail, clean_take, clean_take_none, none_or_some}
 

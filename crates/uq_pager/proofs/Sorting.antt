@@ -1,12 +1,11 @@
 -- How the changed pages come into the order of their numbers, one at a time.
-use Rattle.std.proofs.Common.{◌≡◌, ◌≢◌, ℕ, zero, suc, ◌+◌, ◌<◌, ◌≤◌, Bool, cond, List, [], ◌∷◌, ◌++◌, map, length, take, get_or, Option, Some, None, refl, sym, ap, subst, ◌∙◌, ⊎_elim, arith, append_assoc, append-nil, length-set}
+use Rattle.std.proofs.Common.{◌≡◌, ◌≢◌, ℕ, ◌+◌, ◌<◌, ◌≤◌, cond, List, [], ◌∷◌, ◌++◌, length, take, get_or, Some, None, refl, sym, ap, subst, ◌∙◌, ⊎_elim, arith, append_assoc, append-nil, length-set}
 use Rattle.std.specs.Prelude.{slice_get, slice_set}
 use Rattle.std.specs.Option.{option_map, option_map_or}
-use Rattle.std.specs.List.{AllByRecursion, swap}
+use Rattle.std.specs.List.{swap}
 use Rattle.std.specs.List.Sorted.{IsStrictlySortedBy}
-use Rattle.std.specs.Cmp.{nat_cmp_total, eq_by_cmp_equiv}
 use Rattle.std.specs.Ordering.{nat_cmp}
-use Rattle.std.specs.Map.{keys_of, lookup, set_value}
+use Rattle.std.specs.Map.{set_value}
 use Rattle.std.specs.BTreeMap.{insert_entry, is_at}
 use Rattle.std.proofs.lemmas.Bool.{cases_eq, cases_lt}
 use Rattle.std.proofs.lemmas.List.{map_push, take_all, take_more, take-set, take-set-le}
@@ -16,8 +15,8 @@ use Rattle.uq_journal.specs.Recovered.{changes}
 use Rattle.uq_journal.specs.declared.dirty.Dirty.{Dirty}
 use Rattle.uq_page.specs.Page.{bytes_of}
 use Rattle.uq_pager.specs.Places.{Places, bytes_at, entry_of, in_order, number_at}
-use Rattle.uq_pager.specs.BatchLaws.{entry_head, entry_tail, equal_at, other_at, three, insert_below, insert_same, insert_above}
-use Rattle.uq_pager.specs.PlacesLaws.{AllAbove, Agrees, Sorted, above_on, all_weaker, bytes_read, each_found, entry_map, head_above, insert_again, keys_map, map_insert, none_below, number_read, number_some, tail_sorted}
+use Rattle.uq_pager.specs.BatchLaws.{entry_head, entry_tail, equal_at, other_at, three, insert_same, insert_above}
+use Rattle.uq_pager.specs.PlacesLaws.{Agrees, Sorted, above_on, all_weaker, bytes_read, each_found, entry_map, head_above, insert_again, keys_map, map_insert, none_below, number_read, number_some, tail_sorted}
 use Rattle.uq_pager.specs.Lists.{get_at, get_read, there, get_set_here, get_set_other}
 
 -- a number that is there takes another place

@@ -1,7 +1,7 @@
 -- What a write of a page leaves of a pager.
-use Rattle.std.proofs.Common.{◌≡◌, ◌≢◌, ◌⊎◌, ℕ, ◌+◌, ◌-◌, ◌<◌, ◌≤◌, max, Bool, true, false, cond, List, [], ◌∷◌, ◌++◌, length, nat_eq, Option, Some, None, refl, sym, ap, subst, ◌∙◌, ⊎_elim, inl, inr, arith}
-use Rattle.std.specs.Prelude.{◌||◌, slice_get, slice_set, is_some}
-use Rattle.std.specs.Option.{ForSome, option_map}
+use Rattle.std.proofs.Common.{◌≡◌, ◌≢◌, ℕ, ◌+◌, ◌<◌, ◌≤◌, max, Bool, true, false, cond, List, [], ◌∷◌, ◌++◌, length, nat_eq, Option, Some, None, refl, sym, ap, subst, ◌∙◌, ⊎_elim, arith}
+use Rattle.std.specs.Prelude.{◌||◌, slice_set, is_some}
+use Rattle.std.specs.Option.{option_map}
 use Rattle.std.specs.List.{AllByRecursion, IsDistinct}
 use Rattle.std.specs.Map.{keys_of, remove_entry}
 use Rattle.std.specs.Ordering.{nat_cmp}
@@ -9,7 +9,6 @@ use Rattle.std.specs.BTreeMap.{insert_entry}
 use Rattle.std.proofs.lemmas.Bool.{cases_eq}
 use Rattle.std.proofs.lemmas.Map.Keys.{IsDistinct-head, IsDistinct-tail}
 use Rattle.uq_outside.specs.declared.disk.Disk.{Ghosts}
-use Rattle.uq_page.specs.Page.{bytes_of}
 use Rattle.uq_page.specs.declared.page.Page.{Page}
 use Rattle.uq_journal.specs.Batches.{Original}
 use Rattle.uq_journal.specs.Pages.{with_batch}
@@ -18,13 +17,13 @@ use Rattle.uq_pager.specs.declared.pager.Pager.{Pager}
 use Rattle.uq_pager.specs.Batch.{after}
 use Rattle.uq_pager.specs.BatchLaws.{after_least, after_with, ascends_with, entry_head, entry_tail, grow_change, insert_above, insert_below, insert_same, set_change, three}
 use Rattle.uq_pager.specs.Changes.{batch_of}
-use Rattle.uq_pager.specs.Clean.{AreApart, AreBelow, AreOf, clean_of}
+use Rattle.uq_pager.specs.Clean.{AreApart, clean_of}
 use Rattle.uq_pager.specs.Paged.{pages_on, told_while}
 use Rattle.uq_pager.specs.Pager.{is_held}
 use Rattle.uq_pager.specs.PagerLaws.{stands}
 use Rattle.uq_pager.specs.Places.{entry_of}
-use Rattle.uq_pager.proofs.Cleaning.{clean_head, clean_removed, clean_tail, none_or_some, other_number, same_number}
-use Rattle.uq_pager.proofs.Reading.{CleanHolds, or_true}
+use Rattle.uq_pager.proofs.Cleaning.{clean_tail, none_or_some, other_number, same_number}
+use Rattle.uq_pager.proofs.Reading.{CleanHolds}
 
 -- ---- a page is given up
 

@@ -1,8 +1,7 @@
 -- What a transaction changed is whole pages.
-use Rattle.std.specs.Prelude.{◌≡◌, ℕ, ◌<◌, List, [], ◌∷◌, Some}
+use Rattle.std.specs.Prelude.{ℕ, ◌<◌, List, [], ◌∷◌}
 use Rattle.std.specs.List.{AllByRecursion}
-use Rattle.std.proofs.Common.{refl, sym, ap, subst, ◌∙◌, length}
-use Rattle.uq_page.specs.declared.layout.TheConstants.{PAGE_SIZE}
+use Rattle.std.proofs.Common.{ap, ◌∙◌, length}
 use Rattle.uq_journal.specs.Pages.{IsWhole}
 use Rattle.uq_journal.specs.PagesLaws.{AreSized}
 use Rattle.uq_journal.specs.declared.dirty.Dirty.{Dirty}

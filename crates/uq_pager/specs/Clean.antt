@@ -1,9 +1,7 @@
 -- The clean pages that are held.
 use Rattle.std.specs.Prelude.{◌≡◌, ℕ, ◌<◌, List, nat_eq, slice_get, Option, Some, None}
-use Rattle.std.specs.Option.{option_and_then}
 use Rattle.std.specs.Map.{lookup}
 use Rattle.uq_journal.specs.Batches.{Original}
-use Rattle.uq_journal.specs.Pages.{pages_of}
 use Rattle.uq_page.specs.Page.{bytes_of}
 use Rattle.uq_page.specs.declared.page.Page.{Page}
 use Rattle.uq_pager.specs.Places.{entry_of}

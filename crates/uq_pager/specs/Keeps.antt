@@ -2,9 +2,7 @@
 use Rattle.std.specs.Prelude.{◌≡◌}
 use Rattle.std.specs.Borrow.{MutBor}
 use Rattle.uq_outside.specs.declared.disk.Disk.{Ghosts}
-use Rattle.uq_outside.specs.Files.{Files}
 use Rattle.uq_outside.specs.Since.{LeavesOnly, After}
-use Rattle.uq_outside.specs.Stops.{ToldAlike}
 use Rattle.uq_journal.specs.Calls.{RecoversAs}
 
 -- It is the same disk still, and a stop in between leaves files that recover to what a stop before could leave.

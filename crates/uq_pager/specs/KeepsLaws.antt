@@ -1,10 +1,9 @@
 -- Laws of what calls keep of the disk.
-use Rattle.std.specs.Prelude.{◌≡◌, ℕ, ◌≤◌, List, Some}
+use Rattle.std.specs.Prelude.{ℕ, List}
 use Rattle.std.specs.Option.{option_and_then}
 use Rattle.std.specs.Borrow.{MutBor}
-use Rattle.std.proofs.Common.{refl, sym, ap, ◌∙◌}
+use Rattle.std.proofs.Common.{refl, ap, ◌∙◌}
 use Rattle.uq_outside.specs.declared.disk.Disk.{Ghosts}
-use Rattle.uq_outside.specs.Files.{Files}
 use Rattle.uq_outside.specs.Since.{After, Laws}
 use Rattle.uq_outside.specs.SinceLaws.{started, goes_on, weaker, at_end}
 use Rattle.uq_journal.specs.Calls.{RecoversAs}

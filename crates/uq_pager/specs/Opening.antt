@@ -1,9 +1,8 @@
 -- What an opening finds on a disk.
-use Rattle.std.specs.Prelude.{◌≡◌, ℕ, ◌*◌, ◌<◌, ◌^◌, false, List, length, Option, Some}
+use Rattle.std.specs.Prelude.{◌≡◌, ℕ, ◌<◌, ◌^◌, false, List, length, Some}
 use Rattle.std.specs.Option.{ForSome, option_map}
 use Rattle.uq_outside.specs.declared.disk.Disk.{Ghosts}
 use Rattle.uq_outside.specs.Files.{Files}
-use Rattle.uq_page.specs.declared.layout.TheConstants.{PAGE_SIZE}
 use Rattle.uq_journal.specs.Calls.{IsAtRest, recovered_pages}
 use Rattle.uq_journal.specs.Pages.{pages_of}
 use Rattle.uq_pager.specs.Paged.{Paged}

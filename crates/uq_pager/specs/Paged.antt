@@ -1,8 +1,7 @@
 -- What a pager tells.
-use Rattle.std.specs.Prelude.{◌≡◌, ◌⊎◌, ℕ, Bool, true, false, List, length, Option, Some, None}
-use Rattle.std.specs.Option.{ForSome, option_map, option_and_then}
+use Rattle.std.specs.Prelude.{◌≡◌, ◌⊎◌, ℕ, Bool, true, false, List, Option, Some, None}
+use Rattle.std.specs.Option.{option_and_then}
 use Rattle.uq_outside.specs.Files.{Files}
-use Rattle.uq_outside.specs.Since.{LeavesOnly}
 use Rattle.uq_outside.specs.Stops.{Only}
 use Rattle.uq_outside.specs.declared.disk.Disk.{Ghosts}
 use Rattle.uq_journal.specs.Batches.{Original}

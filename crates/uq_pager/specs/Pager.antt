@@ -6,7 +6,6 @@ use Rattle.uq_page.specs.Pages.{HasPagesCause}
 use Rattle.uq_page.specs.declared.page.Page.{Page}
 use Rattle.std.specs.Option.{ForSome, option_map}
 use Rattle.std.specs.Map.{keys_of}
-use Rattle.std.specs.Borrow.{MutBor}
 use Rattle.uq_outside.specs.declared.disk.Disk.{Ghosts}
 use Rattle.uq_journal.specs.Pages.{with_batch}
 use Rattle.uq_pager.specs.declared.pager.Pager.{Pager}

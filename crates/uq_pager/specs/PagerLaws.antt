@@ -1,27 +1,22 @@
 -- Laws of what contracts see of a pager.
-use Rattle.std.specs.Prelude.{◌≡◌, ℕ, ◌<◌, Bool, true, false, List, length, All, Option, Some, None}
+use Rattle.std.specs.Prelude.{◌≡◌, ℕ, Bool, true, false, List, length, All, Option, Some, None}
 use Rattle.std.specs.Option.{ForSome, option_map, option_and_then}
-use Rattle.std.specs.List.{AllByRecursion}
-use Rattle.std.specs.Map.{keys_of}
 use Rattle.std.proofs.Common.{refl, sym, ap, subst, ◌∙◌}
 use Rattle.std.proofs.lemmas.List.Elements.{All-from_recursion}
 use Rattle.uq_outside.specs.declared.disk.Disk.{Ghosts}
 use Rattle.uq_outside.specs.Files.{Files}
 use Rattle.uq_outside.specs.Since.{Laws}
 use Rattle.uq_page.specs.declared.layout.TheConstants.{PAGE_SIZE}
-use Rattle.uq_journal.specs.Batches.{Original}
 use Rattle.uq_journal.specs.Calls.{IsAtRest, recovered_pages}
 use Rattle.uq_journal.specs.Pages.{IsWhole, pages_of, with_batch}
-use Rattle.uq_journal.specs.PagesLaws.{AreSized, batch_whole, these_pages}
-use Rattle.uq_journal.specs.Recovered.{Ascends}
+use Rattle.uq_journal.specs.PagesLaws.{batch_whole, these_pages}
 use Rattle.uq_pager.specs.declared.pager.Pager.{Pager}
-use Rattle.uq_pager.specs.Batch.{after}
 use Rattle.uq_pager.specs.BatchLaws.{length_batch}
 use Rattle.uq_pager.specs.Changes.{batch_of}
 use Rattle.uq_pager.specs.ChangesLaws.{changes_sized}
 use Rattle.uq_pager.specs.KeepsLaws.{keeps_itself, keeps_on}
-use Rattle.uq_pager.specs.Paged.{Commits, Paged, paged_by, pages_on, told_while}
-use Rattle.uq_pager.specs.Pager.{IsCommitted, IsSound, KeepsPager, OnlyReads, committed_pages, paged, present}
+use Rattle.uq_pager.specs.Paged.{pages_on, told_while}
+use Rattle.uq_pager.specs.Pager.{IsCommitted, KeepsPager, OnlyReads, present}
 
 -- what is told while this holds
 pub told_parts : {X Y : Type 0} (sound : Bool) (f : X → Y) (told : Option X) (y : Y) → told_while sound (option_map f told) ≡ Some y → (sound ≡ true) × (x : X) × (told ≡ Some x) × (f x ≡ y)

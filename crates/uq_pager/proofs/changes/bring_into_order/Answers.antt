@@ -3,7 +3,6 @@ use Rattle.std.specs.List.Sorted.{IsStrictlySortedBy}
 use Rattle.std.specs.Map.{keys_of}
 use Rattle.std.proofs.lemmas.List.{nil_from_length}
 use Rattle.std.specs.Ordering.{nat_cmp}
-use Rattle.uq_journal.specs.Batches.{Original}
 use Rattle.uq_journal.specs.Recovered.{changes}
 use Rattle.uq_pager.specs.Places.{Places, in_order}
 use Rattle.uq_pager.proofs.Sorting.{all_done, next_place, next_within}

@@ -1,4 +1,4 @@
-use Rattle.std.proofs.Common.{◌≡◌, ◌+◌, ◌≤◌, ◌++◌, take, length}
+use Rattle.std.proofs.Common.{◌≡◌, ◌++◌, take}
 use Rattle.std.specs.BTreeMap.{IsOrdered, btree_map_len}
 use Rattle.std.specs.Ordering.{nat_cmp}
 use Rattle.uq_journal.specs.Recovered.{changes}

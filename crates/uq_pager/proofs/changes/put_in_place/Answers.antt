@@ -2,7 +2,7 @@ use Rattle.std.proofs.Common.{refl, arith}
 use Rattle.std.proofs.lemmas.Map.Keys.{sorted_tail}
 use Rattle.std.specs.Ordering.{nat_cmp}
 use Rattle.std.specs.BTreeMap.{keys}
-use Rattle.uq_pager.proofs.Sorting.{Turn, done_stays, has_place, next_place, next_within, stays, turn}
+use Rattle.uq_pager.proofs.Sorting.{done_stays, has_place, next_place, next_within, stays, turn}
 use Rattle.uq_pager.proofs.changes.put_in_place.Goals as goal
 
 pub returns-then-from-at-clause-placed : goal.returns-then-from-at-clause-placed

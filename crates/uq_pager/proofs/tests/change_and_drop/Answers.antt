@@ -1,4 +1,4 @@
-use Rattle.std.proofs.Common.{◌≡◌, List, ℕ, Some, ap, subst, rules, ◌∙◌}
+use Rattle.std.proofs.Common.{◌≡◌, Some, ap, subst, rules, ◌∙◌}
 use Rattle.uq_pager.specs.KeepsLaws.{commits_still}
 use Rattle.uq_pager.specs.Paged.{Commits, pages_on, told_while}
 use Rattle.uq_pager.specs.Pager.{committed_pages}

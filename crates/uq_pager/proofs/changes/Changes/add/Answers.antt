@@ -1,9 +1,5 @@
-use Rattle.std.proofs.Common.{◌≡◌, true, List, [], ◌∷◌, ◌++◌, length, sym, ap, subst, rules, arith, ◌∙◌}
-use Rattle.std.specs.Ordering.{nat_cmp}
-use Rattle.std.specs.BTreeMap.{insert_entry}
-use Rattle.uq_page.specs.Page.{bytes_of}
+use Rattle.std.proofs.Common.{◌≡◌, true, [], ◌∷◌, ◌++◌, length, arith}
 use Rattle.uq_journal.specs.declared.dirty.Dirty.{Dirty}
-use Rattle.uq_pager.specs.Places.{Places, in_order}
 use Rattle.uq_pager.specs.PlacesLaws.{placed_push, order_push}
 use Rattle.uq_pager.proofs.changes.Changes.add.Goals as goal
 

@@ -1,4 +1,4 @@
-use Rattle.std.proofs.Common.{◌≡◌, ℕ, List, Some, None, sym, arith}
+use Rattle.std.proofs.Common.{◌≡◌, Some, None, arith}
 use Rattle.uq_journal.specs.declared.dirty.Dirty.{Dirty}
 use Rattle.uq_pager.specs.Places.{entry_of}
 use Rattle.uq_pager.specs.PlacesLaws.{place_within, number_there, placed_set, order_set}

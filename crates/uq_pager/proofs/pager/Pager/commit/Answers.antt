@@ -1,14 +1,11 @@
-use Rattle.std.proofs.Common.{◌≡◌, rules, ℕ, List, [], length, sym, ap, subst, ◌∙◌, refl}
+use Rattle.std.proofs.Common.{◌≡◌, rules, List, [], length, sym, ap, subst, ◌∙◌}
 use Rattle.std.specs.Map.{keys_of}
 use Rattle.uq_journal.specs.Batches.{Original}
-use Rattle.uq_journal.specs.Calls.{LeavesOldPagesOrNew, WritesPages}
-use Rattle.uq_journal.specs.Recovered.{Ascends, changes, numbers}
-use Rattle.uq_journal.specs.declared.dirty.Dirty.{Dirty}
+use Rattle.uq_journal.specs.Recovered.{Ascends, changes}
 use Rattle.uq_pager.specs.Batch.{after}
 use Rattle.uq_pager.specs.Changes.{batch_of}
-use Rattle.uq_pager.specs.Clean.{AreApart}
 use Rattle.uq_pager.specs.Places.{entry_of}
-use Rattle.uq_pager.proofs.Committing.{Done, done, durable_none, has_saved, nothing_changed, numbers_ascend, stop_commit, stop_none, told_after, told_idle}
+use Rattle.uq_pager.proofs.Committing.{done, durable_none, has_saved, numbers_ascend, stop_commit, stop_none}
 use Rattle.uq_pager.proofs.pager.Pager.commit.Goals as goal
 
 pub returns-then-not-self-clause-stop : goal.returns-then-not-self-clause-stop

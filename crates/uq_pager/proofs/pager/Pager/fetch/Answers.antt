@@ -1,12 +1,12 @@
-use Rattle.std.proofs.Common.{◌≡◌, ◌∷◌, ℕ, ◌+◌, ◌≤◌, take, ◌-◌, length, true, ◌⊎◌, Some, Ok, refl, sym, ap, subst, ◌∙◌, ⊎_elim, inl, inr, arith, rules}
+use Rattle.std.proofs.Common.{◌≡◌, ℕ, ◌≤◌, length, true, Some, refl, sym, ap, ◌∙◌, ⊎_elim, inl, inr, arith}
 use Rattle.std.specs.Prelude.{◌||◌, is_some, slice_get}
-use Rattle.std.specs.Option.{ForSome, option_and_then, option_map}
+use Rattle.std.specs.Option.{ForSome, option_map}
 use Rattle.lru.specs.LruCache.{LruCache}
 use Rattle.uq_outside.specs.SinceLaws.{still_steps}
 use Rattle.uq_page.specs.Page.{bytes_of}
 use Rattle.uq_page.specs.declared.page.Page.{Page}
 use Rattle.uq_journal.specs.Calls.{RecoversAs}
-use Rattle.uq_journal.specs.Pages.{pages_of, with_batch}
+use Rattle.uq_journal.specs.Pages.{with_batch}
 use Rattle.uq_pager.specs.Changes.{batch_of}
 use Rattle.uq_pager.specs.Clean.{clean_of}
 use Rattle.uq_pager.specs.Paged.{pages_on, paged_by, told_while}

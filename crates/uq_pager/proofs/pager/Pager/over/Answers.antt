@@ -1,10 +1,9 @@
-use Rattle.std.proofs.Common.{◌≡◌, ◌∷◌, List, [], None, sym, ap, subst}
+use Rattle.std.proofs.Common.{◌≡◌, List, [], sym, ap, subst}
 use Rattle.std.specs.Map.{keys_of}
 use Rattle.uq_journal.specs.Batches.{Original}
 use Rattle.uq_journal.specs.Recovered.{Ascends}
 use Rattle.uq_pager.specs.Batch.{after}
 use Rattle.uq_pager.specs.Changes.{batch_of}
-use Rattle.uq_pager.specs.Clean.{clean_of}
 use Rattle.uq_pager.specs.Places.{entry_of}
 use Rattle.uq_pager.proofs.Committing.{nothing_changed}
 use Rattle.uq_pager.proofs.Openings.{opened_tells}

@@ -1,6 +1,6 @@
-use Rattle.std.proofs.Common.{◌≡◌, ℕ, ◌+◌, max, refl, inr, sym, ap, ◌∙◌, arith}
+use Rattle.std.proofs.Common.{refl, inr, arith}
 use Rattle.uq_page.specs.Page.{bytes_of}
-use Rattle.uq_pager.proofs.Writing.{counts_on, held_here, held_still, holds_others, none_behind, present_grown, still_apart, still_ascends}
+use Rattle.uq_pager.proofs.Writing.{counts_on, held_here, held_still, none_behind, present_grown, still_apart, still_ascends}
 use Rattle.uq_pager.proofs.paging.PagerPages.grow.Goals as goal
 
 pub invariant_of-self-2 : goal.invariant_of-self-2

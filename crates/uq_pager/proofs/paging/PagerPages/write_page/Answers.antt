@@ -1,6 +1,5 @@
-use Rattle.std.proofs.Common.{◌≡◌, ℕ, ◌+◌, max, false, true, length, inr, sym, ap, ◌∙◌, arith}
+use Rattle.std.proofs.Common.{inr, arith}
 use Rattle.uq_page.specs.Page.{bytes_of}
-use Rattle.uq_pager.specs.Clean.{clean_of}
 use Rattle.uq_pager.proofs.Writing.{counts_on, held_here, held_still, holds_others, present_set, still_apart, still_ascends}
 use Rattle.uq_pager.proofs.paging.PagerPages.write_page.Goals as goal
 
