@@ -1,6 +1,6 @@
 -- What the reader finds at the front of some bytes, and why nothing else is there.
 use Rattle.std.proofs.Common.{◌≡◌, ℕ, suc, ◌<◌, ◌≤◌, ◌+◌, true, false, ℤ, [], ◌∷◌, ◌++◌, length, None, Result, refl, sym, ap, subst, ◌∙◌, append_assoc, append-nil, length-append, arith}
-use Rattle.uq_value.specs.Data.{Bytes, Data, Datas, Pairs, Items, no_items, item, Members, no_members, member, null, boolean, whole, text, sequence, mapping, items_of, list_of, members_of, pairs_of, list, object}
+use Rattle.uq_value.specs.Data.{Bytes, Data, Datas, Pairs, Items, no_items, item, Members, no_members, member, null, bool, int, text, sequence, mapping, items_of, list_of, members_of, pairs_of, list, object}
 use Rattle.uq_value.specs.Size.{data_size, items_size, most_size}
 use Rattle.uq_value.specs.Depth.{data_depth, items_depth}
 use Rattle.uq_codec.specs.Varint.{IsVarint}
@@ -29,9 +29,9 @@ front_kind k bytes rest d f = by (begins d f.word f.is_word)
 
 pub kind_small : (d : Data) → kind d ≤ 6
 kind_small null = omega arith
-kind_small (boolean false) = omega arith
-kind_small (boolean true) = omega arith
-kind_small (whole z) = omega arith
+kind_small (bool false) = omega arith
+kind_small (bool true) = omega arith
+kind_small (int z) = omega arith
 kind_small (text bs) = omega arith
 kind_small (sequence ds) = omega arith
 kind_small (mapping ms) = omega arith
@@ -60,19 +60,19 @@ behind_kind k bytes word tail rest p q = let same : k ∷ bytes ≡ k ∷ (tail 
 
 pub record WholeFront (bytes rest : Bytes) (d : Data) : Type 0 where
   pub number : ℤ
-  pub is : d ≡ whole number
+  pub is : d ≡ int number
   pub front : Front (λ word. IsWhole word number) bytes rest
 
 pub as_whole : (bytes rest : Bytes) (d : Data) → Front (λ word. Spells word d) (3 ∷ bytes) rest → WholeFront bytes rest d
 as_whole bytes rest null f = absurd (omega (arith, front_kind 3 bytes rest null f))
-as_whole bytes rest (boolean false) f = absurd (omega (arith, front_kind 3 bytes rest (boolean false) f))
-as_whole bytes rest (boolean true) f = absurd (omega (arith, front_kind 3 bytes rest (boolean true) f))
+as_whole bytes rest (bool false) f = absurd (omega (arith, front_kind 3 bytes rest (bool false) f))
+as_whole bytes rest (bool true) f = absurd (omega (arith, front_kind 3 bytes rest (bool true) f))
 as_whole bytes rest (text bs) f = absurd (omega (arith, front_kind 3 bytes rest (text bs) f))
 as_whole bytes rest (sequence ds) f = absurd (omega (arith, front_kind 3 bytes rest (sequence ds) f))
 as_whole bytes rest (mapping ms) f = absurd (omega (arith, front_kind 3 bytes rest (mapping ms) f))
-as_whole bytes rest (whole z) f = by f.is_word
+as_whole bytes rest (int z) f = by f.is_word
   where
-    by : Spells f.word (whole z) → WholeFront bytes rest (whole z)
+    by : Spells f.word (int z) → WholeFront bytes rest (int z)
     by (number, parts, is) = record { number = z; is = refl; front = record { word = number; parts = behind_kind 3 bytes f.word number rest f.parts parts; is_word = is } }
 
 pub record TextFront (bytes rest : Bytes) (d : Data) : Type 0 where
@@ -82,9 +82,9 @@ pub record TextFront (bytes rest : Bytes) (d : Data) : Type 0 where
 
 pub as_text : (bytes rest : Bytes) (d : Data) → Front (λ word. Spells word d) (4 ∷ bytes) rest → TextFront bytes rest d
 as_text bytes rest null f = absurd (omega (arith, front_kind 4 bytes rest null f))
-as_text bytes rest (boolean false) f = absurd (omega (arith, front_kind 4 bytes rest (boolean false) f))
-as_text bytes rest (boolean true) f = absurd (omega (arith, front_kind 4 bytes rest (boolean true) f))
-as_text bytes rest (whole z) f = absurd (omega (arith, front_kind 4 bytes rest (whole z) f))
+as_text bytes rest (bool false) f = absurd (omega (arith, front_kind 4 bytes rest (bool false) f))
+as_text bytes rest (bool true) f = absurd (omega (arith, front_kind 4 bytes rest (bool true) f))
+as_text bytes rest (int z) f = absurd (omega (arith, front_kind 4 bytes rest (int z) f))
 as_text bytes rest (sequence ds) f = absurd (omega (arith, front_kind 4 bytes rest (sequence ds) f))
 as_text bytes rest (mapping ms) f = absurd (omega (arith, front_kind 4 bytes rest (mapping ms) f))
 as_text bytes rest (text bs) f = by f.is_word
@@ -115,9 +115,9 @@ pub record ListFront (bytes rest : Bytes) (d : Data) : Type 0 where
 
 pub as_list : (bytes rest : Bytes) (d : Data) → Front (λ word. Spells word d) (5 ∷ bytes) rest → ListFront bytes rest d
 as_list bytes rest null f = absurd (omega (arith, front_kind 5 bytes rest null f))
-as_list bytes rest (boolean false) f = absurd (omega (arith, front_kind 5 bytes rest (boolean false) f))
-as_list bytes rest (boolean true) f = absurd (omega (arith, front_kind 5 bytes rest (boolean true) f))
-as_list bytes rest (whole z) f = absurd (omega (arith, front_kind 5 bytes rest (whole z) f))
+as_list bytes rest (bool false) f = absurd (omega (arith, front_kind 5 bytes rest (bool false) f))
+as_list bytes rest (bool true) f = absurd (omega (arith, front_kind 5 bytes rest (bool true) f))
+as_list bytes rest (int z) f = absurd (omega (arith, front_kind 5 bytes rest (int z) f))
 as_list bytes rest (text bs) f = absurd (omega (arith, front_kind 5 bytes rest (text bs) f))
 as_list bytes rest (mapping ms) f = absurd (omega (arith, front_kind 5 bytes rest (mapping ms) f))
 as_list bytes rest (sequence ds) f = by f.is_word
@@ -134,9 +134,9 @@ pub record ObjectFront (bytes rest : Bytes) (d : Data) : Type 0 where
 
 pub as_object : (bytes rest : Bytes) (d : Data) → Front (λ word. Spells word d) (6 ∷ bytes) rest → ObjectFront bytes rest d
 as_object bytes rest null f = absurd (omega (arith, front_kind 6 bytes rest null f))
-as_object bytes rest (boolean false) f = absurd (omega (arith, front_kind 6 bytes rest (boolean false) f))
-as_object bytes rest (boolean true) f = absurd (omega (arith, front_kind 6 bytes rest (boolean true) f))
-as_object bytes rest (whole z) f = absurd (omega (arith, front_kind 6 bytes rest (whole z) f))
+as_object bytes rest (bool false) f = absurd (omega (arith, front_kind 6 bytes rest (bool false) f))
+as_object bytes rest (bool true) f = absurd (omega (arith, front_kind 6 bytes rest (bool true) f))
+as_object bytes rest (int z) f = absurd (omega (arith, front_kind 6 bytes rest (int z) f))
 as_object bytes rest (text bs) f = absurd (omega (arith, front_kind 6 bytes rest (text bs) f))
 as_object bytes rest (sequence ds) f = absurd (omega (arith, front_kind 6 bytes rest (sequence ds) f))
 as_object bytes rest (mapping ms) f = by f.is_word
@@ -260,5 +260,5 @@ too_short bytes d rest f h =
     let long : length bytes ≡ length (w.front.word ++ rest) = ap length w.front.parts in
     omega (arith, h, long, length-append w.front.word rest, whole_long w.front.word w.number w.front.is_word)
 
-pub whole_found : (room : ℕ) (bytes field rest : Bytes) (z : ℤ) → bytes ≡ field ++ rest → IsWhole field z → Front (λ word. Spells word (whole z)) (3 ∷ bytes) rest × (0 ≤ room)
+pub whole_found : (room : ℕ) (bytes field rest : Bytes) (z : ℤ) → bytes ≡ field ++ rest → IsWhole field z → Front (λ word. Spells word (int z)) (3 ∷ bytes) rest × (0 ≤ room)
 whole_found room bytes field rest z e is = (record { word = 3 ∷ field; parts = ap (λ (w : Bytes). 3 ∷ w) e; is_word = (field, refl, is) }, omega arith)

@@ -2,7 +2,7 @@
 use Rattle.std.proofs.Common.{◌≡◌, ℕ, zero, suc, ◌<◌, ◌≤◌, ◌+◌, ◌/◌, ◌^◌, Bool, true, false, cond, ltb, ℤ, pos, negsuc, [], ◌∷◌, ◌++◌, length, length-append, refl, sym, ap, subst, ◌∙◌, arith}
 use Rattle.std.proofs.lemmas.Bool.{ltb-true, ltb-false}
 use Rattle.std.proofs.Math.Nat.{pow-suc}
-use Rattle.uq_value.specs.Data.{Bytes, Data, null, boolean, whole, text, sequence, mapping, Items, no_items, item, Members, no_members, member, list_of, pairs_of}
+use Rattle.uq_value.specs.Data.{Bytes, Data, null, bool, int, text, sequence, mapping, Items, no_items, item, Members, no_members, member, list_of, pairs_of}
 use Rattle.uq_value.specs.Size.{leb_within, leb_size, name_size, data_size, items_size, members_size, most_size}
 use Rattle.uq_codec.specs.Varint.{IsVarint}
 use Rattle.uq_codec.specs.Stored.{IsWhole, IsName, Spells, SpellsItems, SpellsMembers}
@@ -35,8 +35,8 @@ behind_kind k a b tail tail' p q e = p ∙ ap (λ (w : Bytes). k ∷ w) e ∙ sy
 mutual
   pub spelling_one : (d : Data) (a b : Bytes) → Spells a d → Spells b d → a ≡ b
   spelling_one null a b p q = p ∙ sym q
-  spelling_one (boolean c) a b p q = p ∙ sym q
-  spelling_one (whole z) a b (word, parts, is) (word', parts', is') = behind_kind 3 a b word word' parts parts' (number_one word word' z is is')
+  spelling_one (bool c) a b p q = p ∙ sym q
+  spelling_one (int z) a b (word, parts, is) (word', parts', is') = behind_kind 3 a b word word' parts parts' (number_one word word' z is is')
   spelling_one (text bs) a b (word, parts, is) (word', parts', is') = behind_kind 4 a b word word' parts parts' (name_one word word' bs is is')
   spelling_one (sequence ds) a b (count, body, parts, is, are) (count', body', parts', is', are') =
       behind_kind 5 a b (count ++ body) (count' ++ body') parts parts' (both count body count' body' (varint_one count count' (length (list_of ds)) is is') (items_one ds body body' are are'))
@@ -88,8 +88,8 @@ name_long a bs h p =
 
 some_byte : (d : Data) → 1 ≤ data_size d
 some_byte null = omega arith
-some_byte (boolean b) = omega arith
-some_byte (whole z) = omega arith
+some_byte (bool b) = omega arith
+some_byte (int z) = omega arith
 some_byte (text bs) = omega arith
 some_byte (sequence ds) = omega arith
 some_byte (mapping ms) = omega arith
@@ -108,8 +108,8 @@ kind_long k a tail p = let long : length a ≡ length (k ∷ tail) = ap length p
 mutual
   pub spelling_long : (d : Data) (a : Bytes) → data_size d ≤ most_size → Spells a d → length a ≡ data_size d
   spelling_long null a h p = ap length p
-  spelling_long (boolean b) a h p = ap length p
-  spelling_long (whole z) a h (word, parts, is) = let eight = whole_long word z is in omega (arith, kind_long 3 a word parts, eight)
+  spelling_long (bool b) a h p = ap length p
+  spelling_long (int z) a h (word, parts, is) = let eight = whole_long word z is in omega (arith, kind_long 3 a word parts, eight)
   spelling_long (text bs) a h (word, parts, is) = let long = name_long word bs (omega (arith, h)) is in omega (arith, kind_long 4 a word parts, long)
   spelling_long (sequence ds) a h (count, body, parts, is, are) =
       let counted = count_long count (length (list_of ds)) (omega (arith, h, items_count ds)) is in

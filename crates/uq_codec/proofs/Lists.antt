@@ -8,7 +8,6 @@ use Rattle.uq_value.specs.Plain.{plain, size, depth}
 use Rattle.uq_value.specs.Put.{Put, limited}
 use Rattle.uq_value.specs.Faults.{Refuses, TextFault}
 use Rattle.uq_value.specs.declared.value.Value.{Value}
-use Rattle.uq_value.specs.declared.value.Value.TheVariants.{List as List'}
 use Rattle.uq_value.specs.declared.error.ValueFault.{ValueFault}
 use Rattle.uq_value.specs.declared.error.ValueFault.TheVariants as value
 use Rattle.uq_codec.specs.Varint.{IsVarint}
@@ -109,7 +108,7 @@ pub items_full : (room n count : ℕ) (found after : Datas) (d : Data) (bytes re
 items_full room n count found after d bytes rest behind fault.Memory so_far h f large = tt
 items_full room n count found after d bytes rest behind fault.NotCanonical so_far h f large = too_many room n count found d bytes rest behind so_far h f large
 
-pub item_refused : (before after : Datas) (v : Value) (e : ValueFault) (out : CodecFault) → data_depth (list before) ≤ most_depth → suc (data_depth (plain v)) ≤ most_depth → Refuses (limited (List' (before ++ plain v ∷ []))) e → Passes e out → AddsItem before after (plain v) (Err out)
+pub item_refused : (before after : Datas) (v : Value) (e : ValueFault) (out : CodecFault) → data_depth (list before) ≤ most_depth → suc (data_depth (plain v)) ≤ most_depth → Refuses (limited (Value.List (before ++ plain v ∷ []))) e → Passes e out → AddsItem before after (plain v) (Err out)
 item_refused before after v e out shallow flat r p = by (ltb most_size (data_size (list (before ++ plain v ∷ [])))) refl
   where
     deeper : (ds : Datas) (d : Data) → suc (Rattle.uq_value.specs.Depth.items_depth (items_of ds)) ≤ most_depth → suc (data_depth d) ≤ most_depth → suc (Rattle.uq_value.specs.Depth.items_depth (items_of (ds ++ d ∷ []))) ≤ most_depth
@@ -125,5 +124,5 @@ item_refused before after v e out shallow flat r p = by (ltb most_size (data_siz
     by false f =
         let small = ltb-false most_size (data_size (list (before ++ plain v ∷ []))) f in
         let deep = deeper before (plain v) (omega (arith, shallow)) flat in
-        let memory = passes_memory e out (fits_refused (List' (before ++ plain v ∷ [])) e (omega (arith, small)) (omega (arith, deep)) r) p in
+        let memory = passes_memory e out (fits_refused (Value.List (before ++ plain v ∷ [])) e (omega (arith, small)) (omega (arith, deep)) r) p in
         subst (λ (o : CodecFault). AddsItem before after (plain v) (Err o)) (sym memory) tt

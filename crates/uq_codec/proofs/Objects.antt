@@ -10,7 +10,6 @@ use Rattle.uq_value.specs.Put.{Put, limited}
 use Rattle.uq_value.specs.Slots.{Slots, Stands, Sets}
 use Rattle.uq_value.specs.Faults.{Refuses}
 use Rattle.uq_value.specs.declared.value.Value.{Value}
-use Rattle.uq_value.specs.declared.value.Value.TheVariants.{Object as Object'}
 use Rattle.uq_value.specs.declared.error.ValueFault.{ValueFault}
 use Rattle.uq_codec.specs.Varint.{IsVarint}
 use Rattle.uq_codec.specs.Stored.{IsName, IsMember, Spells, SpellsMembers}
@@ -276,7 +275,7 @@ limited_same v w e = by (Rattle.std.proofs.Common.ltb most_depth (Rattle.uq_valu
     by false true p = absurd (cc)
     by false false p = cc
 
-object_data : (ms ns : Pairs) → Object' ms ≡ Object' ns → ms ≡ ns
+object_data : (ms ns : Pairs) → Value.Object ms ≡ Value.Object ns → ms ≡ ns
 object_data ms ns e = cc
 
 -- the members that a builder holds
@@ -284,10 +283,10 @@ abbrev pub Held : ℕ → ℕ → Bytes → Bytes → Slots → Type 0
 Held room count bytes rest slots = (ms : Pairs) × Front (λ word. SpellsMembers word (members_of ms)) bytes rest × (length ms ≡ count) × Holds slots room ms
 
 pub object_found : (room inner n : ℕ) (bytes after rest : Bytes) (slots : Slots) (o : Pairs) → room ≡ suc inner → Front (λ word. IsVarint word n) bytes after
-    → Held (suc inner) n after rest slots → ((ms : Pairs) → Stands slots ms → limited (Object' ms) ≡ Ok (Object' o))
+    → Held (suc inner) n after rest slots → ((ms : Pairs) → Stands slots ms → limited (Value.Object ms) ≡ Ok (Value.Object o))
     → Front (λ word. Spells word (object o)) (6 ∷ bytes) rest × (data_depth (object o) ≤ room)
 object_found room inner n bytes after rest slots o r count (ms, body, long, holds) finished =
-    let same : ms ≡ o = object_data ms o (limited_same (Object' ms) (Object' o) (finished ms holds.stands)) in
+    let same : ms ≡ o = object_data ms o (limited_same (Value.Object ms) (Value.Object o) (finished ms holds.stands)) in
     let counted : n ≡ length (pairs_of (members_of ms)) = sym (ap length (pairs_and_back ms) ∙ long) in
     subst (λ (ns : Pairs). Front (λ word. Spells word (object ns)) (6 ∷ bytes) rest × (data_depth (object ns) ≤ room)) same (
       record {
@@ -299,17 +298,17 @@ object_found room inner n bytes after rest slots o r count (ms, body, long, hold
     )
 
 object_large : (room inner n : ℕ) (bytes after rest : Bytes) (slots : Slots) (e : ValueFault) (out : CodecFault) → room ≤ most_depth → room ≡ suc inner → Front (λ word. IsVarint word n) bytes after
-    → Held (suc inner) n after rest slots → ((ms : Pairs) → Stands slots ms → Refuses (limited (Object' ms)) e) → Passes e out → out ≡ fault.NotCanonical
+    → Held (suc inner) n after rest slots → ((ms : Pairs) → Stands slots ms → Refuses (limited (Value.Object ms)) e) → Passes e out → out ≡ fault.NotCanonical
     → (d : Data) → Fits room d → NoFront (λ word. Spells word d) (6 ∷ bytes)
 object_large room inner n bytes after rest slots e out low r count (ms, body, long, holds) refused passes is d fits rest' f =
     let o = as_object bytes rest' d f in
     let behind = behind_count (length (pairs_of o.members)) n bytes after rest' count o.counted in
     let same = members_same (members_of ms) o.members body.word behind.1.word rest rest' (ap length (pairs_and_back ms) ∙ long ∙ behind.0) body.is_word behind.1.is_word (two_fronts after rest rest' body behind.1) in
     let size : data_size (object ms) ≡ data_size d = ap (λ (ns : Members). data_size (mapping ns)) same.value ∙ ap data_size (sym o.is) in
-    let memory = passes_memory e out (fits_refused (Object' ms) e (omega (arith, size, fits.small)) (omega (arith, holds.shallow, r, low)) (refused ms holds.stands)) passes in
+    let memory = passes_memory e out (fits_refused (Value.Object ms) e (omega (arith, size, fits.small)) (omega (arith, holds.shallow, r, low)) (refused ms holds.stands)) passes in
     let clash : fault.NotCanonical ≡ fault.Memory = sym is ∙ memory in absurd (cc)
 
 pub object_refused : (room inner n : ℕ) (bytes after rest : Bytes) (slots : Slots) (e : ValueFault) (out : CodecFault) → room ≤ most_depth → room ≡ suc inner → Front (λ word. IsVarint word n) bytes after
-    → Held (suc inner) n after rest slots → ((ms : Pairs) → Stands slots ms → Refuses (limited (Object' ms)) e) → Passes e out → ReadsValue room (6 ∷ bytes) (Err out)
+    → Held (suc inner) n after rest slots → ((ms : Pairs) → Stands slots ms → Refuses (limited (Value.Object ms)) e) → Passes e out → ReadsValue room (6 ∷ bytes) (Err out)
 object_refused room inner n bytes after rest slots e fault.Memory low r count held refused passes = tt
 object_refused room inner n bytes after rest slots e fault.NotCanonical low r count held refused passes = object_large room inner n bytes after rest slots e fault.NotCanonical low r count held refused passes refl

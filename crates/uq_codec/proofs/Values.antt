@@ -3,7 +3,6 @@ use Rattle.std.proofs.Common.{◌≡◌, [], ◌∷◌, refl, sym, ap, ◌∙◌
 use Rattle.uq_value.specs.Data.{Datas, Pairs, items_of, list_of, members_of, pairs_of}
 use Rattle.uq_value.specs.Plain.{plain, value_of}
 use Rattle.uq_value.specs.declared.value.Value.{Value}
-use Rattle.uq_value.specs.declared.value.Value.TheVariants.{Null, Bool, Int, Text, List as List', Object as Object'}
 
 pub list_and_back : (ds : Datas) → list_of (items_of ds) ≡ ds
 list_and_back [] = refl
@@ -14,12 +13,12 @@ pairs_and_back [] = refl
 pairs_and_back (m ∷ ms) = ap (λ (ns : Pairs). m ∷ ns) (pairs_and_back ms)
 
 value_and_back : (v : Value) → value_of (plain v) ≡ v
-value_and_back Null = refl
-value_and_back (Bool b) = refl
-value_and_back (Int z) = refl
-value_and_back (Text bs) = refl
-value_and_back (List' ds) = ap List' (list_and_back ds)
-value_and_back (Object' ms) = ap Object' (pairs_and_back ms)
+value_and_back Value.Null = refl
+value_and_back (Value.Bool b) = refl
+value_and_back (Value.Int z) = refl
+value_and_back (Value.Text bs) = refl
+value_and_back (Value.List ds) = ap Value.List (list_and_back ds)
+value_and_back (Value.Object ms) = ap Value.Object (pairs_and_back ms)
 
 -- a value is known by its data
 pub plain_one : (u v : Value) → plain u ≡ plain v → u ≡ v

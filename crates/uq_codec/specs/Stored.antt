@@ -1,7 +1,7 @@
 -- The stored form of a value: a byte for its kind, and what that kind keeps.
 use Rattle.std.specs.Prelude.{◌≡◌, ◌-◌, ◌^◌, ◌<◌, ◌≤◌, ℤ, pos, negsuc, if◌then◌else◌, [], ◌∷◌, ◌++◌, length}
 use Rattle.std.specs.Int.{w64, to_be_bytes}
-use Rattle.uq_value.specs.Data.{Bytes, Data, null, boolean, whole, text, sequence, mapping, Items, no_items, item, Members, no_members, member, list_of, pairs_of, names_of, IsDistinct}
+use Rattle.uq_value.specs.Data.{Bytes, Data, null, bool, int, text, sequence, mapping, Items, no_items, item, Members, no_members, member, list_of, pairs_of, names_of, IsDistinct}
 use Rattle.uq_value.specs.Size.{most_size}
 use Rattle.uq_value.specs.Depth.{most_depth}
 use Rattle.uq_value.specs.Plain.{plain, size, depth}
@@ -23,8 +23,8 @@ pub record IsName (word bytes : Bytes) : Type 0 where
 abbrev mutual
   pub Spells : Bytes → Data → Type 0
   Spells word null = word ≡ 0 ∷ []
-  Spells word (boolean b) = word ≡ (if b then 2 else 1) ∷ []
-  Spells word (whole z) = (number : Bytes) × (word ≡ 3 ∷ number) × IsWhole number z
+  Spells word (bool b) = word ≡ (if b then 2 else 1) ∷ []
+  Spells word (int z) = (number : Bytes) × (word ≡ 3 ∷ number) × IsWhole number z
   Spells word (text bytes) = (name : Bytes) × (word ≡ 4 ∷ name) × IsName name bytes
   Spells word (sequence ds) =
       (count : Bytes) × (body : Bytes) × (word ≡ 5 ∷ (count ++ body)) × IsVarint count (length (list_of ds)) × SpellsItems body ds

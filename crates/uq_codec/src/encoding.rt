@@ -1,6 +1,6 @@
 //! Writing the stored form of a value.
 ghost use Rattle.std.specs.Prelude.{◌≡◌, ◌<◌, [], ◌∷◌, length, OnOk, OnErr};
-ghost use Rattle.uq_value.specs.Data.{text, whole, list as list_data, object as object_data};
+ghost use Rattle.uq_value.specs.Data.{text, int, list as list_data, object as object_data};
 ghost use Rattle.uq_value.specs.Plain.{plain};
 ghost use Rattle.uq_codec.specs.Answer.{Appends};
 ghost use Rattle.uq_codec.specs.Stored.{IsName, Spells};
@@ -98,7 +98,7 @@ fn push_member(out: &mut Vec<u8>, object: &Object, at: usize) -> Result<(), Allo
 }
 
 fn push_whole(out: &mut Vec<u8>, z: i64) -> Result<(), AllocError>
-    ensures { Writes (λ word. Spells word (whole z)) out.old.items out.new.items result }
+    ensures { Writes (λ word. Spells word (int z)) out.old.items out.new.items result }
 {
     let mut word = [WHOLE; 9];
     BigEndian::write_i64(&mut word[1..], z);

@@ -9,7 +9,6 @@ use Rattle.uq_value.specs.Put.{limited, with_member}
 use Rattle.uq_value.specs.Faults.{Refuses}
 use Rattle.uq_value.specs.Slots.{Slots, Stands, KeptAs, Sets}
 use Rattle.uq_value.specs.declared.value.Value.{Value}
-use Rattle.uq_value.specs.declared.value.Value.TheVariants.{List as List'}
 use Rattle.uq_value.specs.declared.error.ValueFault.{ValueFault}
 use Rattle.uq_value.specs.declared.error.ValueFault.TheVariants as value
 use Rattle.uq_json.specs.Grammar.{Language, Listed, none, some, IsMember, merged, merged_behind, IsScalar, of_null, of_true, of_false, of_number, of_string, IsValue, of_scalar, of_list, of_object, Spells}
@@ -193,19 +192,19 @@ pub nothing_kept : (items : Option Datas) (one : Option Value) → (items ≡ No
 nothing_kept items one (inl e) ds d here there = let large' : most_size < data_size (list ds) = subst (λ (o : Option Datas). ListStandsFor o ds) e here in omega (arith, large', list_grows ds d)
 nothing_kept items one (inr e) ds d here there = let large' : most_size < data_size d = subst (λ (o : Option Value). StandsFor o d) e there in omega (arith, large', list_grows ds d)
 
-pub item_kept : (kept now : Datas) (v : Value) → now ≡ kept ++ plain v ∷ [] → limited (List' (kept ++ plain v ∷ [])) ≡ Ok (List' now) → (ds : Datas) (d : Data) → ListStandsFor (Some kept) ds → StandsFor (Some v) d → ListStandsFor (Some now) (ds ++ d ∷ [])
+pub item_kept : (kept now : Datas) (v : Value) → now ≡ kept ++ plain v ∷ [] → limited (Value.List (kept ++ plain v ∷ [])) ≡ Ok (Value.List now) → (ds : Datas) (d : Data) → ListStandsFor (Some kept) ds → StandsFor (Some v) d → ListStandsFor (Some now) (ds ++ d ∷ [])
 item_kept kept now v is fits' ds d here there =
-    let shallow = within_depth (List' (kept ++ plain v ∷ [])) (List' now) fits' in
+    let shallow = within_depth (Value.List (kept ++ plain v ∷ [])) (Value.List now) fits' in
     (is ∙ ap (λ (es : Datas). es ++ plain v ∷ []) here.0 ∙ ap (λ (e : Data). ds ++ e ∷ []) there, subst (λ (es : Datas). data_depth (list es) ≤ most_depth) (sym is) shallow)
 
 items_deep : (kept : Datas) (d : Data) → items_depth (items_of (kept ++ d ∷ [])) ≤ max (items_depth (items_of kept)) (data_depth d)
 items_deep [] d = omega arith
 items_deep (e ∷ kept) d = let others = items_deep kept d in omega (arith, others)
 
-pub item_refused : (kept : Datas) (v : Value) (e : ValueFault) → Refuses (limited (List' (kept ++ plain v ∷ []))) e → (e ≡ value.Memory → ⊥) → depth v < most_depth → (ds : Datas) (d : Data) → ListStandsFor (Some kept) ds → StandsFor (Some v) d → ListStandsFor None (ds ++ d ∷ [])
-item_refused kept v e refused other shallow ds d here there = by (refused_limit (List' (kept ++ plain v ∷ [])) e refused)
+pub item_refused : (kept : Datas) (v : Value) (e : ValueFault) → Refuses (limited (Value.List (kept ++ plain v ∷ []))) e → (e ≡ value.Memory → ⊥) → depth v < most_depth → (ds : Datas) (d : Data) → ListStandsFor (Some kept) ds → StandsFor (Some v) d → ListStandsFor None (ds ++ d ∷ [])
+item_refused kept v e refused other shallow ds d here there = by (refused_limit (Value.List (kept ++ plain v ∷ [])) e refused)
   where
-    by : (e ≡ value.Memory) ⊎ ((most_depth < depth (List' (kept ++ plain v ∷ []))) ⊎ (most_size < size (List' (kept ++ plain v ∷ [])))) → most_size < data_size (list (ds ++ d ∷ []))
+    by : (e ≡ value.Memory) ⊎ ((most_depth < depth (Value.List (kept ++ plain v ∷ []))) ⊎ (most_size < size (Value.List (kept ++ plain v ∷ [])))) → most_size < data_size (list (ds ++ d ∷ []))
     by (inl is) = absurd (other is)
     by (inr (inl above)) = let below = here.1 in absurd (omega (arith, above, below, shallow, items_deep kept (plain v)))
     by (inr (inr above)) =

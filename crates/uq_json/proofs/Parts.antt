@@ -1,7 +1,7 @@
 -- The parts of a list or object by their places, and their texts.
 use Rattle.std.proofs.Common.{◌≡◌, ℕ, zero, suc, ◌<◌, ◌≤◌, ◌+◌, List, [], ◌∷◌, ◌++◌, length, drop, get_or, slice_get, Option, Some, None, refl, sym, ap, subst, ◌∙◌, append_assoc, append-nil, add-one, arith}
 use Rattle.std.proofs.Math.Seq.{drop-cons, drop-length}
-use Rattle.uq_value.specs.Data.{Bytes, Data, Datas, Pairs, Items, no_items, item, Members, no_members, member, null, boolean, whole, text, sequence, mapping, items_of, list_of, members_of, pairs_of, list, object, names_of, IsDistinct}
+use Rattle.uq_value.specs.Data.{Bytes, Data, Datas, Pairs, Items, no_items, item, Members, no_members, member, null, bool, int, text, sequence, mapping, items_of, list_of, members_of, pairs_of, list, object, names_of, IsDistinct}
 use Rattle.uq_value.specs.Depth.{data_depth, items_depth, members_depth}
 use Rattle.uq_value.specs.Plain.{plain, value_of, items, members}
 use Rattle.uq_value.specs.declared.value.Value.{Value}
@@ -30,8 +30,8 @@ pairs_and_back (m ∷ ms) = ap (λ (ns : Pairs). m ∷ ns) (pairs_and_back ms)
 
 pub plain_and_back : (d : Data) → plain (value_of d) ≡ d
 plain_and_back null = refl
-plain_and_back (boolean b) = refl
-plain_and_back (whole z) = refl
+plain_and_back (bool b) = refl
+plain_and_back (int z) = refl
 plain_and_back (text bs) = refl
 plain_and_back (sequence ds) = ap sequence (items_and_back ds)
 plain_and_back (mapping ms) = ap mapping (members_and_back ms)

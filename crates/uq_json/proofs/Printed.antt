@@ -10,7 +10,7 @@ use Rattle.std.proofs.lemmas.Bool.Decides.{nat_tests}
 use Rattle.std.proofs.lemmas.Fmt.{decimal_is_IsNumeral, decimal_digit, first_decimal}
 use Rattle.std.proofs.lemmas.Slice.Eq.{bytes_eq-Decides}
 use Rattle.std.proofs.lemmas.Str.Parse.{digit_from_value}
-use Rattle.uq_value.specs.Data.{Bytes, Data, Datas, Pairs, Items, no_items, item, Members, no_members, member, null, boolean, whole, text, sequence, mapping, list_of, pairs_of, list, object, is_among, names_of, IsDistinct}
+use Rattle.uq_value.specs.Data.{Bytes, Data, Datas, Pairs, Items, no_items, item, Members, no_members, member, null, bool, int, text, sequence, mapping, list_of, pairs_of, list, object, is_among, names_of, IsDistinct}
 use Rattle.uq_value.specs.Depth.{data_depth, items_depth, members_depth}
 use Rattle.uq_value.specs.Number.{digits_value, positive, negative}
 use Rattle.uq_value.specs.Put.{with_member}
@@ -155,9 +155,9 @@ more_listed L close p q ps a b xs is others =
 mutual
   printed : (d : Data) (k : ℕ) → data_depth d ≤ k → IsPrintable d → Bare k (json d) d
   printed null k deep is = scalar_bare k (codes "null") null (of_null refl refl)
-  printed (boolean true) k deep is = scalar_bare k (codes "true") (boolean true) (of_true refl refl)
-  printed (boolean false) k deep is = scalar_bare k (codes "false") (boolean false) (of_false refl refl)
-  printed (whole z) k deep is = scalar_bare k (signed_decimal z) (whole z) (of_number z (number_printed z is) refl)
+  printed (bool true) k deep is = scalar_bare k (codes "true") (bool true) (of_true refl refl)
+  printed (bool false) k deep is = scalar_bare k (codes "false") (bool false) (of_false refl refl)
+  printed (int z) k deep is = scalar_bare k (signed_decimal z) (int z) (of_number z (number_printed z is) refl)
   printed (text bs) k deep is = scalar_bare k (quoted bs) (text bs) (of_string bs (quoted_spells bs) refl)
   printed (sequence ds) zero deep is = absurd (omega (arith, deep))
   printed (sequence ds) (suc k) deep is =

@@ -5,7 +5,6 @@ use Rattle.uq_value.specs.Size.{data_size, most_size}
 use Rattle.uq_value.specs.Depth.{most_depth}
 use Rattle.uq_value.specs.Plain.{plain, value_of, size}
 use Rattle.uq_value.specs.declared.value.Value.{Value}
-use Rattle.uq_value.specs.declared.value.Value.TheVariants.{Null, Bool, Int, Text, List as List', Object as Object'}
 use Rattle.uq_json.proofs.Parts.{list_and_back, pairs_and_back}
 use Rattle.uq_json.specs.Grammar.{Spells}
 use Rattle.uq_json.specs.Answer.{Begins, OpensTooDeep, IsNoJson, SpellsValue, SpellsTooLarge, Answers}
@@ -159,12 +158,12 @@ pub rest_answer : (ts rest : Bytes) (one : Option Value) → (d : Data) × (elem
 rest_answer ts rest one (d, e, stands) some = rest_left ts rest d e some
 
 value_and_back : (v : Value) → value_of (plain v) ≡ v
-value_and_back Null = refl
-value_and_back (Bool b) = refl
-value_and_back (Int z) = refl
-value_and_back (Text bs) = refl
-value_and_back (List' ds) = ap List' (list_and_back ds)
-value_and_back (Object' ms) = ap Object' (pairs_and_back ms)
+value_and_back Value.Null = refl
+value_and_back (Value.Bool b) = refl
+value_and_back (Value.Int z) = refl
+value_and_back (Value.Text bs) = refl
+value_and_back (Value.List ds) = ap Value.List (list_and_back ds)
+value_and_back (Value.Object ms) = ap Value.Object (pairs_and_back ms)
 
 abbrev Answer : Type 0
 Answer = Result Value JsonFault

@@ -2,7 +2,7 @@
 use Rattle.std.specs.Prelude.{◌≡◌, ℕ, zero, suc, ℤ, Bool, true, false, not, ◌||◌, ◌==◌, ◌⊎◌, List, [], ◌∷◌, ◌++◌, Some, codes}
 use Rattle.std.specs.List.{list_all}
 use Rattle.std.specs.Char.{is_ascii_digit}
-use Rattle.uq_value.specs.Data.{Bytes, Data, Pairs, null, boolean, whole, text, list, object}
+use Rattle.uq_value.specs.Data.{Bytes, Data, Pairs, null, bool, int, text, list, object}
 use Rattle.uq_value.specs.Number.{digits_value, positive, negative}
 use Rattle.uq_value.specs.Put.{with_member}
 use Rattle.uq_json.specs.Strings.{IsString}
@@ -36,9 +36,9 @@ pub data IsNumber (word : Bytes) (z : ℤ) : Type 0 where
 -- a value that has no parts
 pub data IsScalar (word : Bytes) (d : Data) : Type 0 where
   of_null : word ≡ codes "null" → d ≡ null → IsScalar word d
-  of_true : word ≡ codes "true" → d ≡ boolean true → IsScalar word d
-  of_false : word ≡ codes "false" → d ≡ boolean false → IsScalar word d
-  of_number : (z : ℤ) → IsNumber word z → d ≡ whole z → IsScalar word d
+  of_true : word ≡ codes "true" → d ≡ bool true → IsScalar word d
+  of_false : word ≡ codes "false" → d ≡ bool false → IsScalar word d
+  of_number : (z : ℤ) → IsNumber word z → d ≡ int z → IsScalar word d
   of_string : (bs : Bytes) → IsString word bs → d ≡ text bs → IsScalar word d
 
 -- blanks may stand on both sides

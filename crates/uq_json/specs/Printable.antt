@@ -1,6 +1,6 @@
 -- What every value keeps: whole numbers have 64 bits with a sign, and no object within has a name twice.
 use Rattle.std.specs.Prelude.{◌<◌, ◌^◌, ℤ, pos, negsuc}
-use Rattle.uq_value.specs.Data.{Data, null, boolean, whole, text, sequence, mapping, Items, no_items, item, Members, no_members, member, IsDistinct, names_of, pairs_of}
+use Rattle.uq_value.specs.Data.{Data, null, bool, int, text, sequence, mapping, Items, no_items, item, Members, no_members, member, IsDistinct, names_of, pairs_of}
 
 abbrev pub Fits64 : ℤ → Type 0
 Fits64 (pos n) = n < 2 ^ 63
@@ -9,8 +9,8 @@ Fits64 (negsuc n) = n < 2 ^ 63
 abbrev mutual
   pub IsPrintable : Data → Type 0
   IsPrintable null = Unit {0}
-  IsPrintable (boolean b) = Unit {0}
-  IsPrintable (whole z) = Fits64 z
+  IsPrintable (bool b) = Unit {0}
+  IsPrintable (int z) = Fits64 z
   IsPrintable (text bs) = Unit {0}
   IsPrintable (sequence ds) = ItemsArePrintable ds
   IsPrintable (mapping ms) = IsDistinct (names_of (pairs_of ms)) × MembersArePrintable ms

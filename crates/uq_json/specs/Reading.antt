@@ -1,7 +1,7 @@
 -- Reading from the left: what is read and the bytes behind it, or the fault at which reading stops.
 use Rattle.std.specs.Prelude.{◌≡◌, ℕ, zero, suc, ℤ, Bool, true, false, ◌==◌, nat_le, not, ◌&&◌, if◌then◌else◌, List, [], ◌∷◌, length, drop, Option, Some, None, Result, Ok, Err, codes}
 use Rattle.std.specs.Char.{is_ascii_digit}
-use Rattle.uq_value.specs.Data.{Bytes, Data, null, boolean, whole, text, list, object}
+use Rattle.uq_value.specs.Data.{Bytes, Data, null, bool, int, text, list, object}
 use Rattle.uq_value.specs.Number.{digits_value, positive, negative}
 use Rattle.uq_json.specs.Strings.{Piece, byte, code, letter, are_hex, hex_number, bytes_of}
 use Rattle.uq_json.specs.Grammar.{is_blank, has_no_leading_zero, merged}
@@ -127,9 +127,9 @@ scalar_at [] = Err NotJson
 scalar_at (c ∷ cs) =
     if c == 0x22 then string_data_at cs
     else if c == 0x6e then literal (codes "null") null (c ∷ cs)
-    else if c == 0x74 then literal (codes "true") (boolean true) (c ∷ cs)
-    else if c == 0x66 then literal (codes "false") (boolean false) (c ∷ cs)
-    else number_at (c ∷ cs) >>= λ x. Ok (whole x.0, x.1)
+    else if c == 0x74 then literal (codes "true") (bool true) (c ∷ cs)
+    else if c == 0x66 then literal (codes "false") (bool false) (c ∷ cs)
+    else number_at (c ∷ cs) >>= λ x. Ok (int x.0, x.1)
 
 -- whether a comma is next, and not the closing bracket
 abbrev pub separator_at : ℕ → Bytes → Read Bool

@@ -1,6 +1,6 @@
 -- The depth of the first parts of a list or object.
 use Rattle.std.proofs.Common.{◌≡◌, ◌<◌, ◌+◌, max, ℕ, refl, ap, arith, List, [], ◌∷◌, length, take, get_or}
-use Rattle.uq_value.specs.Depths.{depths, member_depths}
+use Rattle.uq_value.specs.Internal.Depths.{depths, member_depths}
 use Rattle.uq_value.specs.Plain.{depth}
 use Rattle.uq_value.specs.declared.value.Value.{Value}
 use Rattle.uq_value.specs.declared.object.Member.{Member}

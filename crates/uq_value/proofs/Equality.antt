@@ -5,9 +5,9 @@ use Rattle.std.proofs.lemmas.Slice.Eq.{bytes_eq-Decides}
 use Rattle.std.specs.Bool.{Decides}
 use Rattle.std.specs.Str.{bytes_eq}
 use Rattle.uq_value.proofs.Levels.{value_of-plain}
-use Rattle.uq_value.specs.Data.{Data, null, boolean, whole, text, sequence, mapping, Items, no_items, item, Members, no_members, member, items_of, members_of}
+use Rattle.uq_value.specs.Data.{Data, null, bool, int, text, sequence, mapping, Items, no_items, item, Members, no_members, member, items_of, members_of}
 use Rattle.uq_value.specs.Plain.{plain, value_of}
-use Rattle.uq_value.specs.Kept.{plain_member}
+use Rattle.uq_value.specs.Internal.Kept.{plain_member}
 use Rattle.uq_value.specs.Same.{same, alike, data_same, items_same, members_same}
 use Rattle.uq_value.specs.declared.value.Value.{Value}
 use Rattle.uq_value.specs.declared.object.Member.{Member}
@@ -61,8 +61,8 @@ right-true false b h = cc
 mutual
   data-sound : (d e : Data) → data_same d e ≡ true → d ≡ e
   data-sound null null h = refl
-  data-sound (boolean a) (boolean b) h = ap boolean ((alike-Decides a b).0 h)
-  data-sound (whole a) (whole b) h = ap whole ((Decides-int_eq a b).0 h)
+  data-sound (bool a) (bool b) h = ap bool ((alike-Decides a b).0 h)
+  data-sound (int a) (int b) h = ap int ((Decides-int_eq a b).0 h)
   data-sound (text a) (text b) h = ap text ((bytes_eq-Decides a b).0 h)
   data-sound (sequence ds) (sequence es) h = ap sequence (items-sound ds es h)
   data-sound (mapping ms) (mapping ns) h = ap mapping (members-sound ms ns h)
@@ -92,8 +92,8 @@ both-true a b p q = ap (λ x. x && b) p ∙ q
 mutual
   data-same : (d : Data) → data_same d d ≡ true
   data-same null = refl
-  data-same (boolean a) = (alike-Decides a a).1 refl
-  data-same (whole a) = (Decides-int_eq a a).1 refl
+  data-same (bool a) = (alike-Decides a a).1 refl
+  data-same (int a) = (Decides-int_eq a a).1 refl
   data-same (text a) = (bytes_eq-Decides a a).1 refl
   data-same (sequence ds) = items-same ds
   data-same (mapping ms) = members-same ms

@@ -1,5 +1,5 @@
 -- An object on the way, one member after the other.
-use Rattle.std.proofs.Common.{◌≡◌, ◌≤◌, ◌<◌, ◌+◌, ◌/◌, ℕ, zero, suc, refl, sym, ap, ◌∙◌, subst, arith, List, [], ◌∷◌, ◌++◌, length, append_assoc, append-nil, Bool, true, false, nat_lt, if◌then◌else◌, Option, Some, None, bytes_eq, Ok, Err}
+use Rattle.std.proofs.Common.{◌≡◌, ◌≤◌, ◌<◌, ◌+◌, ◌/◌, ℕ, zero, suc, refl, sym, ap, ◌∙◌, subst, arith, List, [], ◌∷◌, ◌++◌, length, append_assoc, append-nil, Bool, true, false, nat_lt, if◌then◌else◌, bytes_eq, Ok, Err}
 use Rattle.uq_value.specs.Data.{Bytes, Data, Pairs, object, members_of, is_among, IsDistinct, names_of}
 use Rattle.uq_value.specs.Size.{leb_size, leb_within, data_size}
 use Rattle.uq_value.specs.Depth.{data_depth, members_depth, most_depth}
@@ -7,11 +7,9 @@ use Rattle.uq_value.specs.Plain.{plain, depth}
 use Rattle.uq_value.specs.Places.{place_of}
 use Rattle.uq_value.specs.Put.{Put, limited}
 use Rattle.uq_value.specs.Faults.{Refuses}
-use Rattle.uq_value.specs.Slots.{Slots, KeptAs, Stands}
-use Rattle.uq_value.specs.Halfway.{Half, Adds, AddFault}
-use Rattle.uq_value.specs.Writing.{PushesIfSmall}
+use Rattle.uq_value.specs.Internal.Halfway.{Half, Adds, AddFault}
+use Rattle.uq_value.specs.Internal.Writing.{PushesIfSmall}
 use Rattle.uq_value.specs.declared.value.Value.{Value}
-use Rattle.uq_value.specs.declared.value.Value.TheVariants.{Object as Object'}
 use Rattle.uq_value.specs.declared.error.ValueFault.{ValueFault}
 use Rattle.uq_value.specs.declared.error.ValueFault.TheVariants.{NotContainer, IndexRange, TooDeep, TooLarge, Memory}
 use Rattle.uq_value.proofs.Named.{or-false, differ, names-push}
@@ -41,122 +39,82 @@ object-grows ms name d = omega (arith, object-size ms, object-size-push ms name 
 
 -- ---- one member more
 
-module _ (before : Pairs) (name : Bytes) where
-  pub add-none : (fits : Bool) → Adds before before fits name None false
-  add-none fits =
+module _ (before : Pairs) (name : Bytes) (v : Value) (shallow : depth v < most_depth) where
+  pub add-full : (fits : Bool) → fits ≡ false → Adds before before fits name (plain v) false
+  add-full fits f =
       record {
-        goes_on = λ done d half kept. record {
+        goes_on = λ done half. record {
           built = λ e. cc;
           small = λ e. cc;
-          large = λ e. omega (arith, object-grows done name d, kept.0);
-          shallow = omega (arith, object-depth-push done name d, half.shallow, kept.1);
+          large = λ e. omega (arith, object-grows done name (plain v), half.large f);
+          shallow = omega (arith, object-depth-push done name (plain v), half.shallow, shallow);
         };
         names = λ e. cc;
       }
 
-  module _ (v : Value) (shallow : depth v < most_depth) where
-    pub add-full : (fits : Bool) → fits ≡ false → Adds before before fits name (Some (plain v)) false
-    add-full fits f =
-        record {
-          goes_on = λ done d half kept. record {
-            built = λ e. cc;
-            small = λ e. cc;
-            large = λ e. omega (arith, object-grows done name d, half.large f);
-            shallow = omega (arith, object-depth-push done name d, half.shallow, shallow, ap (λ x. data_depth x) kept);
-          };
-          names = λ e. cc;
-        }
-
-    pub add-push : (after : Pairs) (fits now : Bool) → fits ≡ true → PushesIfSmall before after name v now → Adds before after fits name (Some (plain v)) now
-    add-push after fits true f p =
-        record {
-          goes_on = λ done d half kept.
-              let whole : before ++ (name, plain v) ∷ [] ≡ done ++ (name, d) ∷ [] = ap (λ ms. ms ++ (name, plain v) ∷ []) (half.built f) ∙ ap (λ x. done ++ (name, x) ∷ []) kept in
-              record {
-                built = λ e. p.0 ∙ whole;
-                small = λ e. omega (arith, p.1, object-size-push before name (plain v), ap (λ ms. data_size (object ms)) whole);
-                large = λ e. cc;
-                shallow = omega (arith, object-depth-push done name d, half.shallow, shallow, ap (λ x. data_depth x) kept);
-              };
-          names = λ e. (f, ap (λ ms. names_of ms) p.0 ∙ names-push before name (plain v));
-        }
-    add-push after fits false f p =
-        record {
-          goes_on = λ done d half kept.
-              let whole : before ++ (name, plain v) ∷ [] ≡ done ++ (name, d) ∷ [] = ap (λ ms. ms ++ (name, plain v) ∷ []) (half.built f) ∙ ap (λ x. done ++ (name, x) ∷ []) kept in
-              record {
-                built = λ e. cc;
-                small = λ e. cc;
-                large = λ e. omega (arith, p, object-size-push before name (plain v), ap (λ ms. data_size (object ms)) whole);
-                shallow = omega (arith, object-depth-push done name d, half.shallow, shallow, ap (λ x. data_depth x) kept);
-              };
-          names = λ e. cc;
-        }
+  pub add-push : (after : Pairs) (fits now : Bool) → fits ≡ true → PushesIfSmall before after name v now → Adds before after fits name (plain v) now
+  add-push after fits true f p =
+      record {
+        goes_on = λ done half.
+            let whole : before ++ (name, plain v) ∷ [] ≡ done ++ (name, plain v) ∷ [] = ap (λ ms. ms ++ (name, plain v) ∷ []) (half.built f) in
+            record {
+              built = λ e. p.0 ∙ whole;
+              small = λ e. omega (arith, p.1, object-size-push before name (plain v), ap (λ ms. data_size (object ms)) whole);
+              large = λ e. cc;
+              shallow = omega (arith, object-depth-push done name (plain v), half.shallow, shallow);
+            };
+        names = λ e. (f, ap (λ ms. names_of ms) p.0 ∙ names-push before name (plain v));
+      }
+  add-push after fits false f p =
+      record {
+        goes_on = λ done half.
+            let whole : before ++ (name, plain v) ∷ [] ≡ done ++ (name, plain v) ∷ [] = ap (λ ms. ms ++ (name, plain v) ∷ []) (half.built f) in
+            record {
+              built = λ e. cc;
+              small = λ e. cc;
+              large = λ e. omega (arith, p, object-size-push before name (plain v), ap (λ ms. data_size (object ms)) whole);
+              shallow = omega (arith, object-depth-push done name (plain v), half.shallow, shallow);
+            };
+        names = λ e. cc;
+      }
 
 -- ---- all members, of which some are left
 
-pub record Halfway (rest : Slots) (fits : Bool) (o ms : Pairs) : Type 0 where
+pub record Halfway (left : Pairs) (fits : Bool) (o ms : Pairs) : Type 0 where
   pub done : Pairs
-  pub left : Pairs
   pub split : ms ≡ done ++ left
-  pub stands : Stands rest left
   pub half : Half fits o done
 
-pub starts : (slots : Slots) (ms : Pairs) → Stands slots ms → Halfway slots true [] ms
+pub starts : (ms : Pairs) → Halfway ms true [] ms
 unfolding leb_size
-starts slots ms h = record { done = []; left = ms; split = refl; stands = h; half = record { built = λ e. refl; small = λ e. omega arith; large = λ e. cc; shallow = omega arith } }
+starts ms = record { done = []; split = refl; half = record { built = λ e. refl; small = λ e. omega arith; large = λ e. cc; shallow = omega arith } }
 
-pub turns : (slot : Bytes × Option Data) (rest : Slots) (fits now : Bool) (before after ms : Pairs) → Halfway (slot ∷ rest) fits before ms → Adds before after fits slot.0 slot.1 now → Halfway rest now after ms
-turns slot rest fits now before after ms w a = go w.left w.split w.stands
-  where
-    go : (left : Pairs) → ms ≡ w.done ++ left → Stands (slot ∷ rest) left → Halfway rest now after ms
-    go [] e h = absurd h
-    go (m ∷ left) e h =
-        record {
-          done = w.done ++ m ∷ [];
-          left = left;
-          split = e ∙ sym (append_assoc w.done (m ∷ []) left);
-          stands = h.2;
-          half = subst (λ n. Half now after (w.done ++ (n, m.1) ∷ [])) h.0 (a.goes_on w.done m.1 w.half h.1);
-        }
+pub turns : (m : Bytes × Data) (left : Pairs) (fits now : Bool) (before after ms : Pairs) → Halfway (m ∷ left) fits before ms → Adds before after fits m.0 m.1 now → Halfway left now after ms
+turns m left fits now before after ms w a =
+    record { done = w.done ++ m ∷ []; split = w.split ∙ sym (append_assoc w.done (m ∷ []) left); half = a.goes_on w.done w.half }
 
 deep-among : (done : Pairs) (m : Bytes × Data) (left : Pairs) → data_depth m.1 ≤ members_depth (members_of (done ++ m ∷ left))
 deep-among [] m left = omega arith
 deep-among (n ∷ done) m left = omega (arith, deep-among done m left)
 
-pub add-fails : (slot : Bytes × Option Data) (rest : Slots) (fits : Bool) (before ms : Pairs) → Halfway (slot ∷ rest) fits before ms → (e : ValueFault) → AddFault slot.1 e → Refuses (limited (Object' ms)) e
-add-fails slot rest fits before ms w e f = go w.left w.split w.stands slot.1 refl e f
-  where
-    go : (left : Pairs) → ms ≡ w.done ++ left → Stands (slot ∷ rest) left → (kept : Option Data) → kept ≡ slot.1 → (e : ValueFault) → AddFault kept e → Refuses (limited (Object' ms)) e
-    go [] s h kept q e f = absurd h
-    go (m ∷ left) s h (Some d) q TooDeep f =
-        let same : d ≡ m.1 = subst (λ k. KeptAs k m.1) (sym q) h.1 in
-        too_deep (Object' ms) (omega (arith, f, ap (λ x. data_depth x) same, deep-among w.done m left, ap (λ ns. members_depth (members_of ns)) s))
-    go (m ∷ left) s h None q TooDeep f = absurd f
-    go (m ∷ left) s h (Some d) q Memory f = tt
-    go (m ∷ left) s h None q Memory f = tt
-    go (m ∷ left) s h (Some d) q TooLarge f = absurd f
-    go (m ∷ left) s h None q TooLarge f = absurd f
-    go (m ∷ left) s h (Some d) q NotContainer f = absurd f
-    go (m ∷ left) s h None q NotContainer f = absurd f
-    go (m ∷ left) s h (Some d) q IndexRange f = absurd f
-    go (m ∷ left) s h None q IndexRange f = absurd f
+pub add-fails : (m : Bytes × Data) (left : Pairs) (fits : Bool) (before ms : Pairs) → Halfway (m ∷ left) fits before ms → (e : ValueFault) → AddFault m.1 e → Refuses (limited (Value.Object ms)) e
+add-fails m left fits before ms w TooDeep f = too_deep (Value.Object ms) (omega (arith, f, deep-among w.done m left, ap (λ ns. members_depth (members_of ns)) w.split))
+add-fails m left fits before ms w Memory f = tt
+add-fails m left fits before ms w TooLarge f = absurd f
+add-fails m left fits before ms w NotContainer f = absurd f
+add-fails m left fits before ms w IndexRange f = absurd f
 
-all-done : (done left : Pairs) (ms : Pairs) → ms ≡ done ++ left → Stands [] left → ms ≡ done
-all-done done [] ms e h = e ∙ append-nil done
-all-done done (m ∷ left) ms e h = absurd h
-
-pub ends-whole : (o ms : Pairs) → Halfway [] true o ms → ◌≡◌ {A = Put Value} (limited (Object' ms)) (Ok (Object' o))
+pub ends-whole : (o ms : Pairs) → Halfway [] true o ms → ◌≡◌ {A = Put Value} (limited (Value.Object ms)) (Ok (Value.Object o))
 ends-whole o ms w =
-    let e : ms ≡ w.done = all-done w.done w.left ms w.split w.stands in
+    let e : ms ≡ w.done = w.split ∙ append-nil w.done in
     let b : o ≡ ms = w.half.built refl ∙ sym e in
-    subst (λ x. ◌≡◌ {A = Put Value} (limited (Object' ms)) (Ok (Object' x))) (sym b)
-    (allowed (Object' ms) (omega (arith, w.half.shallow, ap (λ ns. data_depth (object ns)) e)) (omega (arith, w.half.small refl, ap (λ ns. data_size (object ns)) e)))
+    subst (λ x. ◌≡◌ {A = Put Value} (limited (Value.Object ms)) (Ok (Value.Object x))) (sym b)
+    (allowed (Value.Object ms) (omega (arith, w.half.shallow, ap (λ ns. data_depth (object ns)) e)) (omega (arith, w.half.small refl, ap (λ ns. data_size (object ns)) e)))
 
-pub ends-large : (o ms : Pairs) → Halfway [] false o ms → limited (Object' ms) ≡ Err TooLarge
+pub ends-large : (o ms : Pairs) → Halfway [] false o ms → limited (Value.Object ms) ≡ Err TooLarge
 ends-large o ms w =
-    let e : ms ≡ w.done = all-done w.done w.left ms w.split w.stands in
-    too_large (Object' ms) (omega (arith, w.half.shallow, ap (λ ns. data_depth (object ns)) e)) (omega (arith, w.half.large refl, ap (λ ns. data_size (object ns)) e))
+    let e : ms ≡ w.done = w.split ∙ append-nil w.done in
+    too_large (Value.Object ms) (omega (arith, w.half.shallow, ap (λ ns. data_depth (object ns)) e)) (omega (arith, w.half.large refl, ap (λ ns. data_size (object ns)) e))
 
 -- ---- the name that comes next
 

@@ -2,14 +2,13 @@
 use Rattle.std.proofs.Common.{◌≡◌, refl, ap, sym, ◌∙◌, ℕ, List, [], ◌∷◌, map, Some, option_map, slice_get, lit≤, true, false, if◌then◌else◌, bytes_eq}
 use Rattle.std.specs.List.{find}
 use Rattle.std.proofs.lemmas.Option.{slice_get-map}
-use Rattle.uq_value.specs.Data.{Bytes, Data, Datas, Pairs, Items, no_items, item, Members, no_members, member, items_of, list_of, members_of, pairs_of, list, object, null, boolean, whole, text, sequence, mapping}
+use Rattle.uq_value.specs.Data.{Bytes, Data, Datas, Pairs, Items, no_items, item, Members, no_members, member, items_of, list_of, members_of, pairs_of, list, object, null, bool, int, text, sequence, mapping}
 use Rattle.uq_value.specs.Size.{leb_size, data_size}
 use Rattle.uq_value.specs.Depth.{data_depth}
 use Rattle.uq_value.specs.Plain.{plain, value_of, items, members}
-use Rattle.uq_value.specs.Kept.{plain_member, IsList, IsObject}
+use Rattle.uq_value.specs.Internal.Kept.{plain_member, IsList, IsObject}
 use Rattle.uq_value.specs.Reading.{find as find_pair, find_member}
 use Rattle.uq_value.specs.declared.value.Value.{Value}
-use Rattle.uq_value.specs.declared.value.Value.TheVariants.{Null, Bool as Bool', Int, Text, List as List', Object as Object'}
 use Rattle.uq_value.specs.declared.object.Member.{Member}
 use Rattle.uq_value.specs.declared.list.List.TheInside.{Inside as InList}
 use Rattle.uq_value.specs.declared.object.Object.TheInside.{Inside as InObject}
@@ -31,17 +30,17 @@ members_of-pairs_of no_members = refl
 members_of-pairs_of (member n d ms) = ap (member n d) (members_of-pairs_of ms)
 
 pub value_of-plain : (v : Value) → value_of (plain v) ≡ v
-value_of-plain Null = refl
-value_of-plain (Bool' b) = refl
-value_of-plain (Int z) = refl
-value_of-plain (Text bs) = refl
-value_of-plain (List' ds) = ap List' (list_of-items_of ds)
-value_of-plain (Object' ms) = ap Object' (pairs_of-members_of ms)
+value_of-plain Value.Null = refl
+value_of-plain (Value.Bool b) = refl
+value_of-plain (Value.Int z) = refl
+value_of-plain (Value.Text bs) = refl
+value_of-plain (Value.List ds) = ap Value.List (list_of-items_of ds)
+value_of-plain (Value.Object ms) = ap Value.Object (pairs_of-members_of ms)
 
 pub plain-value_of : (d : Data) → plain (value_of d) ≡ d
 plain-value_of null = refl
-plain-value_of (boolean b) = refl
-plain-value_of (whole z) = refl
+plain-value_of (bool b) = refl
+plain-value_of (int z) = refl
 plain-value_of (text bs) = refl
 plain-value_of (sequence ds) = ap sequence (items_of-list_of ds)
 plain-value_of (mapping ms) = ap mapping (members_of-pairs_of ms)
@@ -65,6 +64,7 @@ no_list l e s d =
       depth_is = d ∙ ap (λ vs. data_depth (list (map plain vs))) (sym e);
       size_within = rw s (lit≤ tt);
       depth_within = rw d (lit≤ tt);
+      sound = rw e tt;
     }
 
 pub no_object : (o : InObject) → o.members.items ≡ [] → o.size ≡ 2 → o.depth ≡ 1 → IsObject o
@@ -76,6 +76,7 @@ no_object o e s d =
       size_within = rw s (lit≤ tt);
       depth_within = rw d (lit≤ tt);
       names = rw e tt;
+      sound = rw e tt;
     }
 
 -- ---- members by name

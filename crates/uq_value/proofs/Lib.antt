@@ -1,4 +1,5 @@
 pub mod Levels
+pub mod Sound
 pub mod Leb
 pub mod Digits
 pub mod Equality
@@ -14,5 +15,5 @@ pub mod ListWrite
 pub mod ObjectWrite
 pub mod Steps
 pub mod Puts
-pub mod SlotLaws
+pub mod Setting
 pub mod Halves

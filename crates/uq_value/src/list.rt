@@ -1,14 +1,15 @@
 ghost use Rattle.std.specs.Prelude.{◌≡◌, ◌≤◌, ◌<◌, ◌+◌, [], ◌∷◌, ◌++◌, length, slice_get, option_copied, IfOk, IfErr, OnOk, OnErr, Ok, Err, MatchResult};
 ghost use Rattle.uq_value.specs.Data.{list};
-ghost use Rattle.uq_value.specs.Depths.{depths};
+ghost use Rattle.uq_value.specs.Internal.Depths.{depths};
 ghost use Rattle.uq_value.specs.Faults.{Refuses};
-ghost use Rattle.uq_value.specs.Put.{limited, item};
-ghost use Rattle.uq_value.specs.Reaching.{reached};
-ghost use Rattle.uq_value.specs.Writing.{put_in, put_at, PushFits, size_beside_next};
-ghost use Rattle.uq_value.specs.declared.value.Value.TheVariants.{Int, List as List'};
+ghost use Rattle.uq_value.specs.Put.{limited, nth};
+ghost use Rattle.uq_value.specs.Internal.Reaching.{reached};
+ghost use Rattle.uq_value.specs.Internal.Writing.{put_in, put_at, PushFits, size_beside_next};
+ghost use Rattle.uq_value.specs.declared.value.Value.{Value};
 ghost use Rattle.uq_value.specs.declared.step.Step.TheVariants.{Index};
 ghost use Rattle.uq_value.specs.Size.{data_size, most_size};
 ghost use Rattle.uq_value.specs.Depth.{data_depth, most_depth};
+ghost use Rattle.uq_value.specs.IsValue.{IsValue};
 ghost use Rattle.uq_value.specs.Plain.{items as spec_items, plain, depth as spec_depth};
 ghost use Rattle.uq_value.specs.Truth.{is_empty as spec_is_empty};
 ghost use Rattle.uq_value.specs.Same.{data_same};
@@ -17,7 +18,7 @@ ghost use Rattle.uq_value.specs.Reading.{item_at as spec_item_at};
 use crate::comparing::alike;
 use crate::copying::copy;
 use crate::error::{NoMemory, ValueFault};
-use crate::measuring::{MOST_DEPTH, MOST_SIZE, depth, depth_now, leb_size, size};
+use crate::measuring::{MOST_DEPTH, MOST_SIZE, depth, depth_now, is_value, leb_size, size};
 use crate::step::Step;
 use crate::value::Value;
 use crate::writing::write;
@@ -35,13 +36,13 @@ pub struct List {
 
 impl Model for List {
     ghost use Rattle.uq_value.specs.Data.{Datas};
-    ghost use Rattle.uq_value.specs.Codes.{items_code};
+    ghost use Rattle.uq_value.specs.Internal.Codes.{items_code};
 
     ghost Value = { Datas };
 
     ghost coded = { items_code };
 
-    ghost use Rattle.uq_value.specs.Kept.{list_view, IsList, list_rank};
+    ghost use Rattle.uq_value.specs.Internal.Kept.{list_view, IsList, list_rank};
 
     ghost view = { list_view };
 
@@ -49,7 +50,7 @@ impl Model for List {
 
     ghost size = { list_rank };
 
-    ghost use Rattle.uq_value.specs.Falls.{list_falls};
+    ghost use Rattle.uq_value.specs.Internal.Falls.{list_falls};
 
     ghost size_decreases = { λ a h. list_falls a.items.items };
 }
@@ -119,9 +120,7 @@ impl List {
         let mut items = Vec::new(alloc);
         for v in &self.items {
             let v = copy(alloc, v)?;
-            let Ok(()) = items.push(v) else {
-                return Err(NoMemory);
-            };
+            items.push(v)?;
         }
         Ok(List {
             items,
@@ -134,8 +133,8 @@ impl List {
     /// leaves the list.
     pub fn push(&mut self, v: Value) -> Result<(), ValueFault>
         ensures ok { OnOk result (self.new ≡ self.old ++ plain v ∷ []) }
-        ensures fits { OnOk result (limited (List' (self.old ++ plain v ∷ [])) ≡ Ok (List' self.new)) }
-        ensures refused { IfErr result (Refuses (limited (List' (self.old ++ plain v ∷ [])))) }
+        ensures fits { OnOk result (limited (Value.List (self.old ++ plain v ∷ [])) ≡ Ok (Value.List self.new)) }
+        ensures refused { IfErr result (Refuses (limited (Value.List (self.old ++ plain v ∷ [])))) }
         ensures unchanged { OnErr result (self.new ≡ self.old) }
     {
         if depth(&v) >= MOST_DEPTH {
@@ -153,11 +152,10 @@ impl List {
         ensures ok { OnOk result (self.new ≡ self.old ++ plain v ∷ []) }
         ensures unchanged { OnErr result (self.new ≡ self.old) }
     {
+        is_value(&v);
         let size_after = self.size_beside_next() + size(&v);
         let depth_after = self.depth.max(depth(&v) + 1);
-        let Ok(()) = self.items.push(v) else {
-            return Err(NoMemory);
-        };
+        self.items.push(v)?;
         self.size = size_after;
         self.depth = depth_after;
         Ok(())
@@ -175,7 +173,7 @@ impl List {
 
     /// The item at an index, none at the length.
     pub(crate) fn reach(&self, at: i64) -> Result<Option<&Value>, ValueFault>
-        ensures { MatchResult result (λ o. reached (Index (Int at)) (List' self.now) ≡ Ok (option_copied o)) (λ e. reached (Index (Int at)) (List' self.now) ≡ Err e) }
+        ensures { MatchResult result (λ o. reached (Index (Value.Int at)) (Value.List self.now) ≡ Ok (option_copied o)) (λ e. reached (Index (Value.Int at)) (Value.List self.now) ≡ Err e) }
     {
         if at < 0 || at as usize > self.items.len() {
             return Err(ValueFault::IndexRange);
@@ -195,8 +193,8 @@ impl List {
     ) -> Result<(), ValueFault>
         requires shallow { length rest.now + spec_depth new < most_depth }
         requires small { room ≤ most_size }
-        ensures ok { OnOk result (put_in room (Index (Int at) ∷ rest.now) new (List' self.old) ≡ Ok (List' self.new)) }
-        ensures refused { IfErr result (Refuses (put_in room (Index (Int at) ∷ rest.now) new (List' self.old))) }
+        ensures ok { OnOk result (put_in room (Index (Value.Int at) ∷ rest.now) new (Value.List self.old) ≡ Ok (Value.List self.new)) }
+        ensures refused { IfErr result (Refuses (put_in room (Index (Value.Int at) ∷ rest.now) new (Value.List self.old))) }
         ensures unchanged { OnErr result (self.new ≡ self.old) }
     {
         if at < 0 || at as usize > self.len() {
@@ -221,8 +219,8 @@ impl List {
         requires within { at < length self.old }
         requires shallow { length rest.now + spec_depth new < most_depth }
         requires small { room ≤ most_size }
-        ensures ok { OnOk result (put_at room (item at) rest.now new (List' self.old) ≡ Ok (List' self.new)) }
-        ensures refused { IfErr result (Refuses (put_at room (item at) rest.now new (List' self.old))) }
+        ensures ok { OnOk result (put_at room (nth at) rest.now new (Value.List self.old) ≡ Ok (Value.List self.new)) }
+        ensures refused { IfErr result (Refuses (put_at room (nth at) rest.now new (Value.List self.old))) }
         ensures unchanged { OnErr result (self.new ≡ self.old) }
     {
         let child = &mut self.items[at];
@@ -234,6 +232,7 @@ impl List {
             new,
             room.saturating_sub(self.size - size_before),
         )?;
+        is_value(child);
         let (size_after, depth_after) = (size(child), depth(child));
         self.size = self.size - size_before + size_after;
         self.depth = match depth_now(self.depth, depth_before, depth_after) {
@@ -254,8 +253,8 @@ impl List {
     ) -> Result<(), ValueFault>
         requires shallow { length rest.now + spec_depth new < most_depth }
         requires small { room ≤ most_size }
-        ensures ok { OnOk result (put_at room (item (length self.old)) rest.now new (List' self.old) ≡ Ok (List' self.new)) }
-        ensures refused { IfErr result (Refuses (put_at room (item (length self.old)) rest.now new (List' self.old))) }
+        ensures ok { OnOk result (put_at room (nth (length self.old)) rest.now new (Value.List self.old) ≡ Ok (Value.List self.new)) }
+        ensures refused { IfErr result (Refuses (put_at room (nth (length self.old)) rest.now new (Value.List self.old))) }
         ensures unchanged { OnErr result (self.new ≡ self.old) }
     {
         let mut last = Value::Null;
@@ -267,6 +266,12 @@ impl List {
             room.saturating_sub(self.size_beside_next()),
         )?;
         Ok(self.push_within(last)?)
+    }
+
+    pub(crate) fn is_value(&self)
+        ensures { IsValue (list self.now) }
+    {
+        let _ = &self.items;
     }
 
     pub(crate) fn size(&self) -> u64

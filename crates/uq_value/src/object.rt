@@ -1,14 +1,15 @@
 ghost use Rattle.std.specs.Prelude.{◌≡◌, ◌≤◌, ◌<◌, ◌+◌, [], ◌∷◌, ◌++◌, length, map, bytes_eq, slice_get, option_copied, option_map, IfOk, IfErr, OnOk, OnErr, Ok};
-ghost use Rattle.uq_value.specs.Depths.{member_depths};
+ghost use Rattle.uq_value.specs.Internal.Depths.{member_depths};
 ghost use Rattle.uq_value.specs.Faults.{Refuses};
 ghost use Rattle.uq_value.specs.Places.{place_of as spec_place_of};
-ghost use Rattle.uq_value.specs.Put.{member};
-ghost use Rattle.uq_value.specs.Writing.{put_at, MemberFits, PushesIfSmall, object_beside_next};
-ghost use Rattle.uq_value.specs.declared.value.Value.TheVariants.{Object as Object'};
+ghost use Rattle.uq_value.specs.Put.{named};
+ghost use Rattle.uq_value.specs.Internal.Writing.{put_at, MemberFits, PushesIfSmall, object_beside_next};
+ghost use Rattle.uq_value.specs.declared.value.Value.{Value};
 ghost use Rattle.std.specs.List.{find};
 ghost use Rattle.uq_value.specs.Data.{object, names_of, IsDistinct};
 ghost use Rattle.uq_value.specs.Size.{data_size, most_size};
 ghost use Rattle.uq_value.specs.Depth.{data_depth, most_depth};
+ghost use Rattle.uq_value.specs.IsValue.{IsValue};
 ghost use Rattle.uq_value.specs.Plain.{members as spec_members, plain, depth as spec_depth};
 ghost use Rattle.uq_value.specs.Truth.{is_empty as spec_is_empty};
 ghost use Rattle.uq_value.specs.Same.{data_same};
@@ -17,7 +18,7 @@ ghost use Rattle.uq_value.specs.Reading.{find_member};
 use crate::comparing::alike;
 use crate::copying::copy;
 use crate::error::{NoMemory, ValueFault};
-use crate::measuring::{MOST_SIZE, depth, depth_now, leb_size, name_size, size};
+use crate::measuring::{MOST_SIZE, depth, depth_now, is_value, leb_size, name_size, size};
 use crate::step::Step;
 use crate::text::Text;
 use crate::value::Value;
@@ -44,13 +45,13 @@ pub struct Object {
 
 impl Model for Object {
     ghost use Rattle.uq_value.specs.Data.{Pairs};
-    ghost use Rattle.uq_value.specs.Codes.{members_code};
+    ghost use Rattle.uq_value.specs.Internal.Codes.{members_code};
 
     ghost Value = { Pairs };
 
     ghost coded = { members_code };
 
-    ghost use Rattle.uq_value.specs.Kept.{object_view, IsObject, object_rank};
+    ghost use Rattle.uq_value.specs.Internal.Kept.{object_view, IsObject, object_rank};
 
     ghost view = { object_view };
 
@@ -58,7 +59,7 @@ impl Model for Object {
 
     ghost size = { object_rank };
 
-    ghost use Rattle.uq_value.specs.Falls.{object_falls};
+    ghost use Rattle.uq_value.specs.Internal.Falls.{object_falls};
 
     ghost size_decreases = { λ a h. object_falls a.members.items };
 }
@@ -106,7 +107,7 @@ impl Object {
     pub(crate) fn find(&self, name: &[u8]) -> Option<&Value>
         ensures { option_copied result ≡ find_member name.now self.now }
     {
-        match named(self.members.as_slice(), name) {
+        match member_named(self.members.as_slice(), name) {
             Some(m) => Some(&m.value),
             None => None,
         }
@@ -140,9 +141,7 @@ impl Object {
         for m in &self.members {
             let name = m.name.copy(alloc)?;
             let value = copy(alloc, &m.value)?;
-            let Ok(()) = members.push(Member { name, value }) else {
-                return Err(NoMemory);
-            };
+            members.push(Member { name, value })?;
         }
         Ok(Object {
             members,
@@ -163,8 +162,8 @@ impl Object {
     ) -> Result<(), ValueFault>
         requires shallow { length rest.now + spec_depth new < most_depth }
         requires small { room ≤ most_size }
-        ensures ok { OnOk result (put_at room (member name.now) rest.now new (Object' self.old) ≡ Ok (Object' self.new)) }
-        ensures refused { IfErr result (Refuses (put_at room (member name.now) rest.now new (Object' self.old))) }
+        ensures ok { OnOk result (put_at room (named name.now) rest.now new (Value.Object self.old) ≡ Ok (Value.Object self.new)) }
+        ensures refused { IfErr result (Refuses (put_at room (named name.now) rest.now new (Value.Object self.old))) }
         ensures unchanged { OnErr result (self.new ≡ self.old) }
     {
         let at = place_of(self.members.as_slice(), name);
@@ -180,6 +179,7 @@ impl Object {
             new,
             room.saturating_sub(self.size - size_before),
         )?;
+        is_value(child);
         let (size_after, depth_after) = (size(child), depth(child));
         self.size = self.size - size_before + size_after;
         self.depth = match depth_now(self.depth, depth_before, depth_after) {
@@ -202,8 +202,8 @@ impl Object {
         requires absent { spec_place_of name.now (names_of self.old) ≡ length self.old }
         requires shallow { length rest.now + spec_depth new < most_depth }
         requires small { room ≤ most_size }
-        ensures ok { OnOk result (put_at room (member name.now) rest.now new (Object' self.old) ≡ Ok (Object' self.new)) }
-        ensures refused { IfErr result (Refuses (put_at room (member name.now) rest.now new (Object' self.old))) }
+        ensures ok { OnOk result (put_at room (named name.now) rest.now new (Value.Object self.old) ≡ Ok (Value.Object self.new)) }
+        ensures refused { IfErr result (Refuses (put_at room (named name.now) rest.now new (Value.Object self.old))) }
         ensures unchanged { OnErr result (self.new ≡ self.old) }
     {
         let beside = self.size_beside_next() + name_size(name);
@@ -233,11 +233,10 @@ impl Object {
         ensures ok { OnOk result (self.new ≡ self.old ++ (name, plain value) ∷ []) }
         ensures unchanged { OnErr result (self.new ≡ self.old) }
     {
+        is_value(&value);
         let size_after = self.size_beside_next() + name_size(name.bytes()) + size(&value);
         let depth_after = self.depth.max(depth(&value) + 1);
-        let Ok(()) = self.members.push(Member { name, value }) else {
-            return Err(NoMemory);
-        };
+        self.members.push(Member { name, value })?;
         self.size = size_after;
         self.depth = depth_after;
         Ok(())
@@ -252,9 +251,8 @@ impl Object {
         self.size - leb_size(count) + leb_size(count + 1)
     }
 
-    /// The names are distinct: a caller's proof learns it from this call, which does nothing.
-    pub fn has_distinct_names(&self)
-        ensures { IsDistinct (names_of self.now) }
+    pub(crate) fn is_value(&self)
+        ensures { IsValue (object self.now) }
     {
         let _ = &self.members;
     }
@@ -275,7 +273,7 @@ impl Object {
 }
 
 /// The member of this name.
-fn named<'m>(members: &'m [Member], name: &[u8]) -> Option<&'m Member>
+fn member_named<'m>(members: &'m [Member], name: &[u8]) -> Option<&'m Member>
     ensures { option_copied result ≡ find (λ m. bytes_eq m.name name.now) members.now }
 {
     members.iter().find(|m| m.name.bytes() == name)

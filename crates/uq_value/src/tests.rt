@@ -229,7 +229,7 @@ fn lists_and_objects_are_equal_by_content_in_order(rt: HostRuntime) {
 /// A text of so many bytes.
 fn long_text(rt: &impl Abort, alloc: Global, count: usize) -> Result<Value, ValueFault> {
     let bytes = vec![in alloc; b'x'; count].expect(rt, "room");
-    Ok(Value::Text(Text::from_vec(bytes)?))
+    Ok(Value::Text(Text::from_vec(alloc, bytes)?))
 }
 
 #[test]
@@ -298,26 +298,26 @@ fn a_value_is_128_deep_and_no_deeper(rt: HostRuntime) {
     );
 }
 
-/// Sets a member that has to be new, or not.
+/// Sets a member, which has to stand at a place.
 fn set(
     rt: &impl Abort,
     alloc: Global,
     builder: &mut ObjectBuilder,
     name: &[u8],
-    value: Option<Value>,
-    is_new: bool,
+    value: Value,
+    place: usize,
 ) {
     let name = Vec::from_slice(alloc, name).expect(rt, "a name");
-    assert_eq!(rt; builder.set(name, value), Ok(is_new));
+    assert_eq!(rt; builder.set(name, value), Ok(place));
 }
 
 #[test]
 fn an_object_is_built_of_the_last_values_in_the_first_places(rt: HostRuntime) {
     let alloc = rt.alloc();
     let mut builder = ObjectBuilder::new(alloc);
-    set(&rt, alloc, &mut builder, b"a", None, true);
-    set(&rt, alloc, &mut builder, b"b", Some(Value::Int(2)), true);
-    set(&rt, alloc, &mut builder, b"a", Some(Value::Int(1)), false);
+    set(&rt, alloc, &mut builder, b"a", Value::Null, 0);
+    set(&rt, alloc, &mut builder, b"b", Value::Int(2), 1);
+    set(&rt, alloc, &mut builder, b"a", Value::Int(1), 0);
     let object = builder.finish(alloc).expect(&rt, "an object");
     assert!(rt; same(&Value::Object(object), &pair(&rt, alloc, b"a", b"b")));
 }
@@ -325,13 +325,13 @@ fn an_object_is_built_of_the_last_values_in_the_first_places(rt: HostRuntime) {
 #[test]
 fn an_object_that_is_too_deep_or_too_large_is_not_built(rt: HostRuntime) {
     let alloc = rt.alloc();
+    let largest = long_text(&rt, alloc, 16_777_147).expect(&rt, "a text");
     let mut large = ObjectBuilder::new(alloc);
-    set(&rt, alloc, &mut large, b"a", None, true);
-    assert_eq!(rt; large.finish(alloc).err(), Some(ValueFault::TooLarge));
-    let mut deep = ObjectBuilder::new(alloc);
+    set(&rt, alloc, &mut large, b"a", largest, 0);
     let mut value = Value::Null;
     assert_eq!(rt; put_deep(&rt, alloc, &mut value, 128, Value::Null), Ok(()));
-    set(&rt, alloc, &mut deep, b"a", None, true);
-    set(&rt, alloc, &mut deep, b"b", Some(value), true);
+    let mut deep = ObjectBuilder::new(alloc);
+    set(&rt, alloc, &mut deep, b"a", value, 0);
+    assert_eq!(rt; large.finish(alloc).err(), Some(ValueFault::TooLarge));
     assert_eq!(rt; deep.finish(alloc).err(), Some(ValueFault::TooDeep));
 }

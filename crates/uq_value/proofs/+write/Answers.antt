@@ -1,7 +1,7 @@
 use Rattle.std.proofs.Common.{arith, rules, ap, ◌∙◌, ◌≡◌, ◌<◌, ◌-◌, ◌+◌, ◌++◌, ◌∷◌, [], length, map, refl, sym, max}
 use Rattle.std.proofs.lemmas.Result.{err_from_is_err_and}
 use Rattle.uq_value.specs.Plain.{plain, size}
-use Rattle.uq_value.specs.Depths.{depths, member_depths}
+use Rattle.uq_value.specs.Internal.Depths.{depths, member_depths}
 use Rattle.uq_value.specs.Places.{place_of}
 use Rattle.uq_value.proofs.ListWrite.{no-less, refused, done, is_list, depth_after, append-refused, appended, append-fits}
 use Rattle.uq_value.proofs.ObjectWrite.{at-most, is_absent, add-refused, added, add-fits}
@@ -49,7 +49,7 @@ pub list::List::write_at-invariant_of-self-2 : goal.list::List::write_at-invaria
 list::List::write_at-invariant_of-self-2 t c =
     is_list _ c.self.invariant _ c.self.view_is c.args.at _ c.requires.within c.index_mut-child.ensures.value c.args.room c.saturating_sub.result
     (c.saturating_sub.ensures ∙ ap (λ n. c.args.room - (c.self.inside.size - n)) c.size-size_before.ensures.size)
-    c.args.rest.now c.args.new c.write.new.v (c.in_ok-write.ensures.ok) c.requires.small c.requires.shallow _ refl
+    c.args.rest.now c.args.new c.write.new.v (c.in_ok-write.ensures.ok) c.requires.small c.requires.shallow c.is_value.ensures.sound _ refl
     (ap (λ n. c.self.inside.size - n + c.size-size_after.result) c.size-size_before.ensures.size ∙ ap (λ n. c.self.inside.size - size c.index_mut-child.result.now + n) c.size-size_after.ensures.size)
     (elim c.match-depth_now.branch [
       | list::List::write_at-in-Some w ↦ w.self-is ∙ depth_after _ c.self.invariant _ c.self.view_is c.args.at _ c.requires.within c.index_mut-child.ensures.value c.write.new.v _
@@ -128,7 +128,7 @@ object::Object::write_member-invariant_of-self-2 t c =
     let inside : c.place_of-at.result < length c.self.inside.members.items = omega (arith, at-most c.self.inside c.args.self.now c.self.view_is c.args.name.now c.place_of-at.result place, c.if-at-len.false, e) in
     O.is_object c.self.inside c.self.invariant c.args.self.now c.self.view_is c.args.name.now c.place_of-at.result place inside c.index_mut.result.now c.index_mut.ensures.value c.args.room c.saturating_sub.result
     (c.saturating_sub.ensures ∙ ap (λ n. c.args.room - (c.self.inside.size - n)) c.size-size_before.ensures.size)
-    c.args.rest.now c.args.new c.write.new.v (c.in_ok-write.ensures.ok) c.requires.small c.requires.shallow _ refl
+    c.args.rest.now c.args.new c.write.new.v (c.in_ok-write.ensures.ok) c.requires.small c.requires.shallow c.is_value.ensures.sound _ refl
     (ap (λ n. c.self.inside.size - n + c.size-size_after.result) c.size-size_before.ensures.size ∙ ap (λ n. c.self.inside.size - size c.index_mut.result.now.value + n) c.size-size_after.ensures.size)
     (elim c.match-depth_now.branch [
       | object::Object::write_member-in-Some w ↦ w.self-is ∙ O.depth_after c.self.inside c.self.invariant c.args.self.now c.self.view_is c.args.name.now c.place_of-at.result place inside c.index_mut.result.now c.index_mut.ensures.value c.write.new.v _

@@ -1,6 +1,6 @@
 use Rattle.std.proofs.Common.{◌≡◌, ◌≤◌, take}
 use Rattle.uq_value.specs.Depth.{most_depth}
-use Rattle.uq_value.specs.Depths.{depths}
+use Rattle.uq_value.specs.Internal.Depths.{depths}
 use Rattle.uq_value.proofs.list.deepest.Given as goal
 
 abbrev pub invariant-loop-v : goal.invariant-loop-v

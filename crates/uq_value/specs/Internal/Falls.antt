@@ -5,19 +5,18 @@ use denote.Param.Weighed.{most}
 use Rattle.uq_value.specs.Data.{items_of, members_of}
 use Rattle.uq_value.specs.Depth.{data_depth, items_depth, members_depth}
 use Rattle.uq_value.specs.Plain.{plain}
-use Rattle.uq_value.specs.Kept.{plain_member}
+use Rattle.uq_value.specs.Internal.Kept.{plain_member}
 use Rattle.uq_value.specs.declared.value.Value.{Value}
-use Rattle.uq_value.specs.declared.value.Value.TheVariants.{Null, Bool, Int, Text, List as List', Object as Object'}
 use Rattle.uq_value.specs.declared.object.Member.{Member}
 use Rattle.uq_value.specs.declared.list.List.TheDeep.{deep-Value, deep-Member}
 
 value_falls : (v : Value) → deep-Value v ≤ data_depth (plain v)
-value_falls Null = omega arith
-value_falls (Bool b) = omega arith
-value_falls (Int z) = omega arith
-value_falls (Text bs) = omega arith
-value_falls (List' ds) = omega arith
-value_falls (Object' ms) = omega arith
+value_falls Value.Null = omega arith
+value_falls (Value.Bool b) = omega arith
+value_falls (Value.Int z) = omega arith
+value_falls (Value.Text bs) = omega arith
+value_falls (Value.List ds) = omega arith
+value_falls (Value.Object ms) = omega arith
 
 items_fall : (vs : List Value) → most (λ v. deep-Value v) vs ≤ items_depth (items_of (map plain vs))
 items_fall [] = omega arith

@@ -3,7 +3,7 @@ use Rattle.std.specs.Prelude.{◌≡◌, ◌+◌, max, ℕ, List, map}
 use Rattle.uq_value.specs.Data.{items_of, members_of}
 use Rattle.uq_value.specs.Depth.{items_depth, members_depth}
 use Rattle.uq_value.specs.Plain.{plain}
-use Rattle.uq_value.specs.Kept.{plain_member}
+use Rattle.uq_value.specs.Internal.Kept.{plain_member}
 use Rattle.uq_value.specs.declared.value.Value.{Value}
 use Rattle.uq_value.specs.declared.object.Member.{Member}
 
