@@ -4,7 +4,7 @@ use Rattle.std.proofs.lemmas.Nat.{from_be_bytes-to_be_bytes_8}
 use Rattle.std.specs.Int.{w64, to_be_bytes, from_be_bytes}
 use Rattle.uq_value.specs.Data.{Bytes, Data, null, bool, int, text, sequence, mapping, Items, no_items, item, Members, no_members, member, list_of, pairs_of}
 use Rattle.uq_codec.specs.Varint.{IsVarint}
-use Rattle.uq_codec.specs.Stored.{IsWhole, IsName, Spells, SpellsItems, SpellsMembers}
+use Rattle.uq_codec.specs.Stored.{IsWhole, IsName, Encodes, EncodesItems, EncodesMembers}
 
 -- two spellings, each with more behind it, are of the same thing
 pub record Same {A : Type 0} (c d : A) (a b x y : Bytes) : Type 0 where
@@ -97,7 +97,7 @@ pub record Begins (a : Bytes) (k : ℕ) : Type 0 where
   pub tail : Bytes
   pub parts : a ≡ k ∷ tail
 
-pub begins : (d : Data) (a : Bytes) → Spells a d → Begins a (kind d)
+pub begins : (d : Data) (a : Bytes) → Encodes a d → Begins a (kind d)
 begins null a p = record { tail = []; parts = p }
 begins (bool false) a p = record { tail = []; parts = p }
 begins (bool true) a p = record { tail = []; parts = p }
@@ -106,7 +106,7 @@ begins (text bs) a (name, parts, is) = record { tail = name; parts = parts }
 begins (sequence ds) a (count, body, parts, is, are) = record { tail = count ++ body; parts = parts }
 begins (mapping ms) a (count, body, parts, is, are, distinct) = record { tail = count ++ body; parts = parts }
 
-same_kind : (c d : Data) (a b x y : Bytes) → Spells a c → Spells b d → a ++ x ≡ b ++ y → kind c ≡ kind d
+same_kind : (c d : Data) (a b x y : Bytes) → Encodes a c → Encodes b d → a ++ x ≡ b ++ y → kind c ≡ kind d
 same_kind c d a b x y p q e = by (begins c a p) (begins d b q)
   where
     by : Begins a (kind c) → Begins b (kind d) → kind c ≡ kind d
@@ -137,7 +137,7 @@ both a b a' b' p q = ap (λ (w : Bytes). w ++ b) p ∙ ap (λ (w : Bytes). a' ++
 -- ---- values
 
 mutual
-  pub spelling_same : (c d : Data) (a b x y : Bytes) → Spells a c → Spells b d → a ++ x ≡ b ++ y → Same c d a b x y
+  pub spelling_same : (c d : Data) (a b x y : Bytes) → Encodes a c → Encodes b d → a ++ x ≡ b ++ y → Same c d a b x y
   spelling_same null null a b x y p q e = with_kind 0 null null a b [] [] x y p q (record { value = refl; word = refl; rest = behind 0 a b [] [] x y p q e })
   spelling_same null (bool false) a b x y p q e = absurd (omega (arith, same_kind null (bool false) a b x y p q e))
   spelling_same null (bool true) a b x y p q e = absurd (omega (arith, same_kind null (bool true) a b x y p q e))
@@ -198,7 +198,7 @@ mutual
       let bodies = members_same ms ns body body' x y counts.value are are' counts.rest in
       with_kind 6 (mapping ms) (mapping ns) a b (count ++ body) (count' ++ body') x y parts parts' (record { value = ap mapping bodies.value; word = both count body count' body' counts.word bodies.word; rest = bodies.rest })
 
-  pub items_same : (cs ds : Items) (a b x y : Bytes) → length (list_of cs) ≡ length (list_of ds) → SpellsItems a cs → SpellsItems b ds → a ++ x ≡ b ++ y → Same cs ds a b x y
+  pub items_same : (cs ds : Items) (a b x y : Bytes) → length (list_of cs) ≡ length (list_of ds) → EncodesItems a cs → EncodesItems b ds → a ++ x ≡ b ++ y → Same cs ds a b x y
   items_same no_items no_items a b x y n p q e = record { value = refl; word = p ∙ sym q; rest = ap (λ (w : Bytes). w ++ x) (sym p) ∙ e ∙ ap (λ (w : Bytes). w ++ y) q }
   items_same no_items (item d ds) a b x y n p q e = absurd (omega (arith, n))
   items_same (item c cs) no_items a b x y n p q e = absurd (omega (arith, n))
@@ -212,7 +212,7 @@ mutual
         rest = others.rest;
       }
 
-  pub members_same : (ms ns : Members) (a b x y : Bytes) → length (pairs_of ms) ≡ length (pairs_of ns) → SpellsMembers a ms → SpellsMembers b ns → a ++ x ≡ b ++ y → Same ms ns a b x y
+  pub members_same : (ms ns : Members) (a b x y : Bytes) → length (pairs_of ms) ≡ length (pairs_of ns) → EncodesMembers a ms → EncodesMembers b ns → a ++ x ≡ b ++ y → Same ms ns a b x y
   members_same no_members no_members a b x y n p q e = record { value = refl; word = p ∙ sym q; rest = ap (λ (w : Bytes). w ++ x) (sym p) ∙ e ∙ ap (λ (w : Bytes). w ++ y) q }
   members_same no_members (member m d ns) a b x y n p q e = absurd (omega (arith, n))
   members_same (member m c ms) no_members a b x y n p q e = absurd (omega (arith, n))

@@ -66,7 +66,7 @@ fn lengths_are_written_in_groups_of_seven_bits(rt: HostRuntime) {
             bytes.push(b'x').expect(&rt, "a byte");
             want.push(b'x').expect(&rt, "a byte");
         }
-        let text = Text::from_vec(bytes).expect(&rt, "a text");
+        let text = Text::from_vec(alloc, bytes).expect(&rt, "a text");
         check_encodes(&rt, alloc, &Value::Text(text), want.as_slice());
     }
 }

@@ -1,11 +1,12 @@
 -- The size and depth of lists and objects, from those of their parts.
 use Rattle.std.proofs.Common.{◌≡◌, ◌≤◌, ◌+◌, max, ℕ, refl, ap, ◌∙◌, arith, [], ◌∷◌, ◌++◌, length, length-append}
-use Rattle.uq_value.specs.Data.{Bytes, Data, Datas, Pairs, list, object, items_of, members_of, null, bool, int, text, sequence, mapping}
+use Rattle.uq_value.specs.Data.{Bytes, Data, Datas, Pairs, list, object, items_of, members_of}
 use Rattle.uq_value.specs.Size.{leb_size, name_size, data_size, items_size, members_size}
 use Rattle.uq_value.specs.Depth.{data_depth, items_depth, members_depth}
 use Rattle.uq_value.specs.Internal.Writing.{size_beside_next, object_beside_next}
 use Rattle.uq_value.proofs.Levels.{list_of-items_of, pairs_of-members_of}
 use Rattle.uq_value.proofs.Totals.{greatest, total, total-push, length-total, greatest-push}
+pub use Rattle.uq_value.specs.Laws.Growth.{some-size}
 
 abbrev pub pair_size : Bytes × Data → ℕ
 pair_size m = name_size m.0 + data_size m.1
@@ -60,14 +61,6 @@ pub object-depth-push : (ms : Pairs) (name : Bytes) (d : Data) → data_depth (o
 object-depth-push ms name d = omega (arith, object-depth (ms ++ (name, d) ∷ []), object-depth ms, greatest-push pair_depth ms (name, d))
 
 -- ---- each part takes a byte at least
-
-pub some-size : (d : Data) → 1 ≤ data_size d
-some-size null = omega arith
-some-size (bool b) = omega arith
-some-size (int z) = omega arith
-some-size (text bs) = omega arith
-some-size (sequence ds) = omega arith
-some-size (mapping ms) = omega arith
 
 some-pair : (m : Bytes × Data) → 1 ≤ pair_size m
 some-pair m = omega (arith, some-size m.1)

@@ -11,4 +11,5 @@ pub mod Order
 pub mod Put
 pub mod Faults
 pub mod Places
+pub mod Laws
 pub mod Internal

@@ -268,7 +268,8 @@ impl List {
         Ok(self.push_within(last)?)
     }
 
-    pub(crate) fn is_value(&self)
+    /// A list is a value: a caller's proof learns it from this call, which does nothing.
+    pub fn is_value(&self)
         ensures { IsValue (list self.now) }
     {
         let _ = &self.items;

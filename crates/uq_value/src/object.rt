@@ -251,7 +251,8 @@ impl Object {
         self.size - leb_size(count) + leb_size(count + 1)
     }
 
-    pub(crate) fn is_value(&self)
+    /// An object is a value: a caller's proof learns it from this call, which does nothing.
+    pub fn is_value(&self)
         ensures { IsValue (object self.now) }
     {
         let _ = &self.members;

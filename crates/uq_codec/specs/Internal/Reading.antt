@@ -7,12 +7,11 @@ use Rattle.uq_value.specs.Data.{Bytes, Data, Datas, Pairs, Items, Members, list,
 use Rattle.uq_value.specs.Size.{data_size, most_size}
 use Rattle.uq_value.specs.Depth.{data_depth}
 use Rattle.uq_value.specs.Plain.{plain}
-use Rattle.uq_value.specs.Slots.{Slots, Stands}
 use Rattle.uq_value.specs.declared.value.Value.{Value}
 use Rattle.uq_value.specs.declared.error.ValueFault.{ValueFault}
 use Rattle.uq_value.specs.declared.error.ValueFault.TheVariants as value
 use Rattle.uq_codec.specs.Varint.{IsVarint}
-use Rattle.uq_codec.specs.Stored.{IsName, IsMember, Spells, SpellsItems, SpellsMembers}
+use Rattle.uq_codec.specs.Stored.{IsName, IsMember, Encodes, EncodesItems, EncodesMembers}
 use Rattle.uq_codec.specs.declared.error.CodecFault.{CodecFault}
 use Rattle.uq_codec.specs.declared.error.CodecFault.TheVariants.{NotCanonical, Memory}
 
@@ -50,14 +49,14 @@ Reads Found NotFound (Err Memory) = Unit {0}
 -- a value of at most this depth
 abbrev pub ReadsValue : ℕ → Bytes → Result (Value × Bor Bytes) CodecFault → Type 0
 ReadsValue room bytes = Reads
-    (λ x. Front (λ word. Spells word (plain x.0)) bytes x.1.now × (data_depth (plain x.0) ≤ room))
-    ((d : Data) → Fits room d → NoFront (λ word. Spells word d) bytes)
+    (λ x. Front (λ word. Encodes word (plain x.0)) bytes x.1.now × (data_depth (plain x.0) ≤ room))
+    ((d : Data) → Fits room d → NoFront (λ word. Encodes word d) bytes)
 
 -- so many items of a list of at most this depth
 abbrev pub ReadsItems : ℕ → ℕ → Bytes → Result (Datas × Bor Bytes) CodecFault → Type 0
 ReadsItems room count bytes = Reads
-    (λ x. Front (λ word. SpellsItems word (items_of x.0)) bytes x.1.now × (length x.0 ≡ count) × (data_depth (list x.0) ≤ room))
-    ((ds : Items) → length (list_of ds) ≡ count → Fits room (sequence ds) → NoFront (λ word. SpellsItems word ds) bytes)
+    (λ x. Front (λ word. EncodesItems word (items_of x.0)) bytes x.1.now × (length x.0 ≡ count) × (data_depth (list x.0) ≤ room))
+    ((ds : Items) → length (list_of ds) ≡ count → Fits room (sequence ds) → NoFront (λ word. EncodesItems word ds) bytes)
 
 -- the limits of a value are those of its stored form
 abbrev pub Passes : ValueFault → CodecFault → Type 0
@@ -77,14 +76,8 @@ ReadsMember room bytes = Reads
     (λ x. Front (λ word. IsMember word x.0.items (plain x.1)) bytes x.2.now × (data_depth (plain x.1) ≤ room))
     ((name : Bytes) (d : Data) → length name ≤ most_size → Fits room d → NoFront (λ word. IsMember word name d) bytes)
 
--- the builder holds these members
-pub record Holds (slots : Slots) (room : ℕ) (ms : Pairs) : Type 0 where
-  pub stands : Stands slots ms
-  pub distinct : IsDistinct (names_of ms)
-  pub shallow : data_depth (object ms) ≤ room
-
 -- so many members of an object of at most this depth
-abbrev pub ReadsMembers : ℕ → ℕ → Bytes → Result (Slots × Bor Bytes) CodecFault → Type 0
+abbrev pub ReadsMembers : ℕ → ℕ → Bytes → Result (Pairs × Bor Bytes) CodecFault → Type 0
 ReadsMembers room count bytes = Reads
-    (λ x. (ms : Pairs) × Front (λ word. SpellsMembers word (members_of ms)) bytes x.1.now × (length ms ≡ count) × Holds x.0 room ms)
-    ((ms : Members) → length (pairs_of ms) ≡ count → IsDistinct (names_of (pairs_of ms)) → Fits room (mapping ms) → NoFront (λ word. SpellsMembers word ms) bytes)
+    (λ x. Front (λ word. EncodesMembers word (members_of x.0)) bytes x.1.now × (length x.0 ≡ count) × IsDistinct (names_of x.0) × (data_depth (object x.0) ≤ room))
+    ((ms : Members) → length (pairs_of ms) ≡ count → IsDistinct (names_of (pairs_of ms)) → Fits room (mapping ms) → NoFront (λ word. EncodesMembers word ms) bytes)
