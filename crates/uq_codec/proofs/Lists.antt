@@ -1,11 +1,11 @@
 -- Reading texts and lists.
-use Rattle.std.proofs.Common.{◌≡◌, ℕ, suc, ◌<◌, ◌≤◌, Bool, true, false, cond, ltb, [], ◌∷◌, ◌++◌, length, Ok, Err, refl, sym, ap, subst, ◌∙◌, arith}
+use Rattle.std.proofs.Common.{◌≡◌, ℕ, suc, ◌<◌, ◌≤◌, Bool, true, false, ltb, [], ◌∷◌, ◌++◌, length, Err, refl, sym, ap, subst, ◌∙◌, arith}
 use Rattle.std.proofs.lemmas.Bool.{ltb-true, ltb-false}
 use Rattle.uq_value.specs.Data.{Bytes, Data, Datas, text, sequence, items_of, list_of, list}
 use Rattle.uq_value.specs.Size.{data_size, most_size, text_size}
 use Rattle.uq_value.specs.Depth.{data_depth, most_depth}
-use Rattle.uq_value.specs.Plain.{plain, size, depth}
-use Rattle.uq_value.specs.Put.{Put, limited}
+use Rattle.uq_value.specs.Plain.{plain}
+use Rattle.uq_value.specs.Put.{limited}
 use Rattle.uq_value.specs.Faults.{Refuses, TextFault}
 use Rattle.uq_value.specs.declared.value.Value.{Value}
 use Rattle.uq_value.specs.declared.error.ValueFault.{ValueFault}

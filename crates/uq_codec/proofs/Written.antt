@@ -1,9 +1,8 @@
 -- What stands behind what stood there, part by part.
-use Rattle.std.proofs.Common.{◌≡◌, ℕ, zero, suc, ◌<◌, ◌≤◌, ◌+◌, [], ◌∷◌, ◌++◌, length, take, take_all, get_or, slice_get, Option, Some, None, Result, Ok, refl, sym, ap, subst, ◌∙◌, append_assoc, append-nil, add-one, arith}
+use Rattle.std.proofs.Common.{◌≡◌, ℕ, zero, suc, ◌<◌, ◌+◌, [], ◌∷◌, ◌++◌, length, take, take_all, get_or, Result, Ok, refl, sym, ap, subst, ◌∙◌, append_assoc, append-nil, add-one, arith}
 use Rattle.std.proofs.lemmas.Result.{on_ok_weaker}
-use Rattle.uq_value.specs.Data.{Bytes, Data, Datas, Pairs, Items, no_items, item, Members, no_members, member, null, bool, int, text, sequence, mapping, items_of, list_of, members_of, pairs_of, list, object, names_of, IsDistinct}
-use Rattle.uq_value.specs.Depth.{data_depth, items_depth, members_depth}
-use Rattle.uq_value.specs.Plain.{plain, value_of, items, members}
+use Rattle.uq_value.specs.Data.{Bytes, Data, Datas, Pairs, null, items_of, members_of, list, object, names_of, IsDistinct}
+use Rattle.uq_value.specs.Plain.{plain}
 use Rattle.uq_value.specs.declared.value.Value.{Value}
 use Rattle.uq_codec.specs.Varint.{IsVarint}
 use Rattle.uq_codec.specs.Stored.{IsName, Encodes, EncodesItems, EncodesMembers}

@@ -2,7 +2,7 @@
 use Rattle.std.proofs.Common.{◌≡◌, ℕ, zero, suc, Bool, true, false, cond, eqb, leb, [], ◌∷◌, Option, Some, None, Ok, Err, ℤ, codes}
 use Rattle.uq_value.specs.Data.{Bytes, Data, null, bool, int, text}
 use Rattle.uq_json.specs.Strings.{byte, code, letter, are_hex, hex_number, bytes_of}
-use Rattle.uq_json.specs.Reading.{Read, ◌>>=◌, literal, number_or_fault, number_at, natural, digits_of, behind_digits, letter_or_fault, unicode_at, escape_at, piece_at, pieces_within, inside_at, string_at, behind, scalar_at}
+use Rattle.uq_json.specs.Internal.Reading.{Read, ◌>>=◌, literal, number_or_fault, number_at, natural, digits_of, behind_digits, letter_or_fault, unicode_at, escape_at, piece_at, pieces_within, inside_at, string_at, behind, scalar_at}
 use Rattle.uq_value.specs.Number.{positive, negative}
 use Rattle.uq_json.specs.declared.error.JsonFault.TheVariants.{NotJson, TooDeep}
 

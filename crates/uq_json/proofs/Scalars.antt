@@ -7,7 +7,7 @@ use Rattle.std.proofs.lemmas.Bool.Decides.{nat_tests}
 use Rattle.uq_value.specs.Data.{Bytes, Data, null, bool, int, text}
 use Rattle.uq_value.specs.Number.{digits_value, positive, negative}
 use Rattle.uq_json.specs.Grammar.{has_no_leading_zero, IsNatural, IsNumber, plain, minus, IsScalar, of_null, of_true, of_false, of_number, of_string}
-use Rattle.uq_json.specs.Reading.{Read, ◌>>=◌, literal, digits_of, behind_digits, natural, number_or_fault, number_at, inside_at, string_at, scalar_at}
+use Rattle.uq_json.specs.Internal.Reading.{Read, ◌>>=◌, literal, digits_of, behind_digits, natural, number_or_fault, number_at, inside_at, string_at, scalar_at}
 use Rattle.uq_json.specs.declared.error.JsonFault.TheVariants.{NotJson}
 use Rattle.uq_json.proofs.Steps.{bind_ok, chosen, if_true, if_false, Takes, no_ok}
 use Rattle.uq_json.proofs.Pieces.{inside_takes, string_again}

@@ -64,7 +64,7 @@ pub data Bracketed {A : Type 0} (L : Language A) (opening close : ℕ) (word : B
   some : (body : Bytes) → word ≡ opening ∷ body → Listed L close body xs → Bracketed L opening close word xs
 
 -- a name, a colon and a value
-pub record IsMember (value : Language Data) (word : Bytes) (m : Bytes × Data) : Type 0 where
+pub record IsJsonMember (value : Language Data) (word : Bytes) (m : Bytes × Data) : Type 0 where
   pub name : Bytes
   pub rest : Bytes
   pub parts : word ≡ name ++ 0x3a ∷ rest
@@ -80,12 +80,12 @@ abbrev pub merged : Pairs → Pairs
 merged ms = merged_behind [] ms
 
 -- a value, of whose parts each is in the language within
-pub data IsValue (within : Language Data) (word : Bytes) (d : Data) : Type 0 where
-  of_scalar : IsScalar word d → IsValue within word d
-  of_list : (ds : List Data) → Bracketed within 0x5b 0x5d word ds → d ≡ list ds → IsValue within word d
-  of_object : (ms : Pairs) → Bracketed (IsMember within) 0x7b 0x7d word ms → d ≡ object (merged ms) → IsValue within word d
+pub data IsJsonValue (within : Language Data) (word : Bytes) (d : Data) : Type 0 where
+  of_scalar : IsScalar word d → IsJsonValue within word d
+  of_list : (ds : List Data) → Bracketed within 0x5b 0x5d word ds → d ≡ list ds → IsJsonValue within word d
+  of_object : (ms : Pairs) → Bracketed (IsJsonMember within) 0x7b 0x7d word ms → d ≡ object (merged ms) → IsJsonValue within word d
 
 -- the text spells this value, and opens at most so many levels of lists and objects
-unfoldable pub Spells : ℕ → Bytes → Data → Type 0
-Spells zero word d = Padded IsScalar word d
-Spells (suc k) word d = Padded (IsValue (Spells k)) word d
+unfoldable pub JsonSpells : ℕ → Bytes → Data → Type 0
+JsonSpells zero word d = Padded IsScalar word d
+JsonSpells (suc k) word d = Padded (IsJsonValue (JsonSpells k)) word d

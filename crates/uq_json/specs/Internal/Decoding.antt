@@ -2,7 +2,7 @@
 use Rattle.std.specs.Prelude.{[], ◌∷◌, ◌++◌, List, Option, Some, None, ℕ, Ok}
 use Rattle.uq_value.specs.Data.{Bytes}
 use Rattle.uq_json.specs.Strings.{Piece, byte, code, bytes_of, utf8}
-use Rattle.uq_json.specs.Reading.{Read, ◌>>=◌}
+use Rattle.uq_json.specs.Internal.Reading.{Read, ◌>>=◌}
 use Rattle.uq_json.specs.declared.piece.Piece.{Piece as Piece'}
 use Rattle.uq_json.specs.declared.piece.Piece.TheVariants.{Byte, Code}
 

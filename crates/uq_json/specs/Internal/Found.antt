@@ -2,13 +2,14 @@
 use Rattle.std.specs.Prelude.{◌≡◌, ◌<◌, ◌≤◌, Option, Some, None, Result, Ok, Err}
 use Rattle.std.specs.Borrow.{Bor}
 use Rattle.uq_value.specs.Data.{Bytes, Data, Datas, Pairs, list}
-use Rattle.uq_value.specs.Slots.{Slots, Stands}
+use Rattle.uq_json.specs.Internal.LeftOut.{Stands}
+use Rattle.uq_json.specs.declared.members.Members.{Members}
 use Rattle.uq_json.specs.Grammar.{merged}
 use Rattle.uq_value.specs.Size.{data_size, most_size}
 use Rattle.uq_value.specs.Depth.{data_depth, most_depth}
 use Rattle.uq_value.specs.Plain.{plain}
 use Rattle.uq_value.specs.declared.value.Value.{Value}
-use Rattle.uq_json.specs.Reading.{Read, Fails}
+use Rattle.uq_json.specs.Internal.Reading.{Read, Fails}
 use Rattle.uq_json.specs.declared.error.JsonFault.{JsonFault}
 
 -- the value that is kept for some data
@@ -30,12 +31,12 @@ abbrev pub FindsItems : Result (Option Datas × Bor Bytes) JsonFault → Read Da
 FindsItems (Ok x) read = (ds : Datas) × (read ≡ Ok (ds, x.1.now)) × ListStandsFor x.0 ds
 FindsItems (Err e) read = Fails e read
 
--- the slots that are kept for the members of a text, of which a repeated one takes the place of the first
-abbrev pub SlotsStandFor : Slots → Pairs → Type 0
-SlotsStandFor slots ms = Stands slots (merged ms)
+-- what is kept for the members of a text, of which a repeated one takes the place of the first
+abbrev pub MembersStandFor : Members → Pairs → Type 0
+MembersStandFor members ms = Stands members (merged ms)
 
-abbrev pub FindsMembers : Result (Slots × Bor Bytes) JsonFault → Read Pairs → Type 0
-FindsMembers (Ok x) read = (ms : Pairs) × (read ≡ Ok (ms, x.1.now)) × SlotsStandFor x.0 ms
+abbrev pub FindsMembers : Result (Members × Bor Bytes) JsonFault → Read Pairs → Type 0
+FindsMembers (Ok x) read = (ms : Pairs) × (read ≡ Ok (ms, x.1.now)) × MembersStandFor x.0 ms
 FindsMembers (Err e) read = Fails e read
 
 -- a member's name and the value that is kept

@@ -1,7 +1,6 @@
 -- Printing the parts of a list or an object, one after the other.
 use Rattle.std.specs.Prelude.{ℕ, zero, suc, [], ◌∷◌, slice_index_or}
-use Rattle.uq_value.specs.Data.{Bytes, Datas, Pairs, null, items_of, members_of}
-use Rattle.uq_json.specs.Printable.{IsPrintable}
+use Rattle.uq_value.specs.Data.{Bytes, Datas, Pairs, items_of, members_of}
 use Rattle.uq_json.specs.Text.{item_texts, member_texts}
 
 -- all but the first stand behind a comma
@@ -14,9 +13,3 @@ item_text ds at = slice_index_or (item_texts (items_of ds)) at []
 
 abbrev pub member_text : Pairs → ℕ → Bytes
 member_text ms at = slice_index_or (member_texts (members_of ms)) at []
-
-abbrev pub IsPrintableAt : Datas → ℕ → Type 0
-IsPrintableAt ds at = IsPrintable (slice_index_or ds at null)
-
-abbrev pub MemberIsPrintableAt : Pairs → ℕ → Type 0
-MemberIsPrintableAt ms at = IsPrintable ((slice_index_or ms at ([], null)).1)
