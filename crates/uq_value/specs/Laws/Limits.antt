@@ -26,17 +26,9 @@ case_of v = split (nat_lt most_depth (depth v)) (nat_lt most_size (size v)) refl
     split false true p q = too_large (grind arith) (grind arith) (ap (λ x. bounded x (nat_lt most_size (size v)) v) p ∙ ap (λ x. bounded false x v) q)
     split false false p q = allowed (grind arith) (grind arith) (ap (λ x. bounded x (nat_lt most_size (size v)) v) p ∙ ap (λ x. bounded false x v) q)
 
-fault_or : ValueFault → Put Value → ValueFault
-fault_or e (Ok v) = e
-fault_or e (Err f) = f
-
 value_or : Value → Put Value → Value
 value_or v (Ok w) = w
 value_or v (Err e) = v
-
-err_one : (e f : ValueFault) → ◌≡◌ {A = Put Value} (Err e) (Err f) → e ≡ f
-unfolding fault_or
-err_one e f p = ap (λ r. fault_or e r) p
 
 ok_one : (v w : Value) → ◌≡◌ {A = Put Value} (Ok v) (Ok w) → v ≡ w
 unfolding value_or
@@ -56,33 +48,21 @@ limited-ok v w p = by (case_of v)
     by (too_deep d e) = absurd (let both : ◌≡◌ {A = Put Value} (Err TooDeep) (Ok w) = sym e ∙ p in cc)
     by (too_large d s e) = absurd (let both : ◌≡◌ {A = Put Value} (Err TooLarge) (Ok w) = sym e ∙ p in cc)
 
--- a refusal is want of memory, or tells the limit that is passed
+-- a refusal is want of memory, or tells of a limit that is passed
+limit-passed : (v : Value) (e : ValueFault) → limited v ≡ Err e → (most_depth < depth v) ⊎ (most_size < size v)
+limit-passed v e r = by (case_of v)
+  where
+    by : Case v → (most_depth < depth v) ⊎ (most_size < size v)
+    by (allowed d s q) = absurd (let both : ◌≡◌ {A = Put Value} (Ok v) (Err e) = sym q ∙ r in cc)
+    by (too_deep d q) = inl d
+    by (too_large d s q) = inr s
+
 pub limited-refuses : (v : Value) (e : ValueFault) → Refuses (limited v) e → (e ≡ Memory) ⊎ ((most_depth < depth v) ⊎ (most_size < size v))
 limited-refuses v Memory r = inl refl
-limited-refuses v TooLarge r = by (case_of v)
-  where
-    by : Case v → (TooLarge ≡ Memory) ⊎ ((most_depth < depth v) ⊎ (most_size < size v))
-    by (allowed d s e) = absurd (let both : ◌≡◌ {A = Put Value} (Ok v) (Err TooLarge) = sym e ∙ r in cc)
-    by (too_deep d e) = inr (inl d)
-    by (too_large d s e) = inr (inr s)
-limited-refuses v TooDeep r = by (case_of v)
-  where
-    by : Case v → (TooDeep ≡ Memory) ⊎ ((most_depth < depth v) ⊎ (most_size < size v))
-    by (allowed d s e) = absurd (let both : ◌≡◌ {A = Put Value} (Ok v) (Err TooDeep) = sym e ∙ r in cc)
-    by (too_deep d e) = inr (inl d)
-    by (too_large d s e) = inr (inr s)
-limited-refuses v NotContainer r = by (case_of v)
-  where
-    by : Case v → (NotContainer ≡ Memory) ⊎ ((most_depth < depth v) ⊎ (most_size < size v))
-    by (allowed d s e) = absurd (let both : ◌≡◌ {A = Put Value} (Ok v) (Err NotContainer) = sym e ∙ r in cc)
-    by (too_deep d e) = inr (inl d)
-    by (too_large d s e) = inr (inr s)
-limited-refuses v IndexRange r = by (case_of v)
-  where
-    by : Case v → (IndexRange ≡ Memory) ⊎ ((most_depth < depth v) ⊎ (most_size < size v))
-    by (allowed d s e) = absurd (let both : ◌≡◌ {A = Put Value} (Ok v) (Err IndexRange) = sym e ∙ r in cc)
-    by (too_deep d e) = inr (inl d)
-    by (too_large d s e) = inr (inr s)
+limited-refuses v TooLarge r = inr (limit-passed v TooLarge r)
+limited-refuses v TooDeep r = inr (limit-passed v TooDeep r)
+limited-refuses v NotContainer r = inr (limit-passed v NotContainer r)
+limited-refuses v IndexRange r = inr (limit-passed v IndexRange r)
 
 -- what is within the limits is refused for want of memory alone
 pub fits-refused : (v : Value) (e : ValueFault) → size v ≤ most_size → depth v ≤ most_depth → Refuses (limited v) e → e ≡ Memory
