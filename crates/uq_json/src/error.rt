@@ -1,3 +1,4 @@
+//! Why a text is not read as JSON.
 ghost use Rattle.std.specs.Prelude.{◌≡◌, ◌≢◌, None, IfOk, IfErr};
 ghost use Rattle.uq_value.specs.declared.error.ValueFault.TheVariants.{Memory as NoRoom};
 ghost use Rattle.uq_json.specs.declared.error.JsonFault.TheVariants.{Memory};

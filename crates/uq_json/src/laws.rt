@@ -1,5 +1,4 @@
-// What holds of JSON texts and values.
-
+//! What holds of JSON texts and values.
 ghost use Rattle.uq_json.specs.Laws.{OneAnswer, OneString, QuotesBack, PrintsBack, NoneBegins};
 
 /// A text has one answer, but for want of memory.

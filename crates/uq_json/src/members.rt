@@ -1,6 +1,5 @@
-// The members of an object of a text. A value that is too large to be one is left out, since another of the same name
-// may yet take its place.
-
+//! The members of an object of a text. A value that is too large to be one is left out, since another of the same name
+//! may yet take its place.
 ghost use Rattle.std.specs.Prelude.{◌≡◌, ◌≤◌, ◌<◌, [], ◌⊎◌, length, false, IfOk, IfErr, OnOk};
 ghost use Rattle.std.specs.List.{list_any};
 ghost use Rattle.uq_value.specs.Data.{Data, Pairs, object};

@@ -1,5 +1,4 @@
-// The whole numbers of JSON.
-
+//! The whole numbers of JSON.
 ghost use Rattle.std.specs.Prelude.{◌≡◌, true, if◌then◌else◌};
 ghost use Rattle.std.specs.Char.{is_ascii_digit};
 ghost use Rattle.std.specs.List.{list_all};

@@ -1,5 +1,4 @@
-// One piece of a JSON string: a byte that stands for itself, or an escape.
-
+//! One piece of a JSON string: a byte that stands for itself, or an escape.
 ghost use Rattle.std.specs.Char.{digit_value};
 ghost use Rattle.std.specs.Prelude.{◌≡◌, Some, None, if◌then◌else◌};
 ghost use Rattle.uq_json.specs.Internal.Decoding.{piece};

@@ -1,5 +1,4 @@
-// The JSON text of a value, without blanks, and its text.
-
+//! The JSON text of a value, without blanks, and its text.
 ghost use Rattle.std.specs.Prelude.{◌≡◌, ◌<◌, ◌++◌, length, Ok, IfOk, OnOk};
 ghost use Rattle.uq_value.specs.Data.{list as list_data, object as object_data};
 ghost use Rattle.uq_value.specs.Plain.{plain};

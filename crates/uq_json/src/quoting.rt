@@ -1,5 +1,4 @@
-// Bytes as a JSON string.
-
+//! Bytes as a JSON string.
 ghost use Rattle.std.specs.Prelude.{◌≡◌, ◌<◌, ◌++◌, OnOk, IfOk};
 ghost use Rattle.uq_json.specs.Quote.{escaped, escaped_control, quoted};
 ghost use Rattle.uq_json.specs.Strings.{IsString};

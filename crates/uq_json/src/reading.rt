@@ -1,7 +1,6 @@
-// JSON texts, read from the left by functions from a text to what stands at its front and the text behind it.
-//
-// A value that is too large to be one is left out (None), since a repeated member may yet take its place.
-
+//! JSON texts, read from the left by functions from a text to what stands at its front and the text behind it.
+//!
+//! A value that is too large to be one is left out (None), since a repeated member may yet take its place.
 ghost use Rattle.std.specs.Prelude.{◌≡◌, ◌≢◌, ◌<◌, ◌≤◌, ◌++◌, ◌∷◌, [], suc, length, Some, None, Result, Err, IfOk, IfErr, IfSome};
 ghost use Rattle.uq_value.specs.Data.{Bytes, Data, Datas, Pairs, list as list_data, object as object_data};
 ghost use Rattle.uq_value.specs.Depth.{data_depth, most_depth};

@@ -1,5 +1,4 @@
-// Looking at the bytes that are next: blanks, single bytes, digits, and what stands for itself in a string.
-
+//! Looking at the bytes that are next: blanks, single bytes, digits, and what stands for itself in a string.
 ghost use Rattle.std.specs.Prelude.{◌≡◌, ◌<◌, length, true, IsTrue};
 ghost use Rattle.std.specs.Char.{is_ascii_digit};
 ghost use Rattle.std.specs.List.{list_all};

@@ -1,5 +1,4 @@
-// The bytes of a JSON string.
-
+//! The bytes of a JSON string.
 ghost use Rattle.std.specs.Prelude.{◌≡◌};
 ghost use Rattle.uq_value.specs.Data.{Bytes};
 ghost use Rattle.uq_json.specs.Answer.{AnswersString};

@@ -1,3 +1,4 @@
+//! Why a value can't be made or written.
 ghost use Rattle.std.specs.Prelude.{◌≡◌};
 ghost use Rattle.uq_value.specs.declared.error.ValueFault.TheVariants.{Memory};
 

@@ -1,5 +1,4 @@
-// The size and depth of values, which lists and objects keep.
-
+//! The size and depth of values, which lists and objects keep.
 ghost use Rattle.std.specs.Prelude.{◌≡◌, ◌≤◌, ◌<◌, ◌+◌, ◌^◌, IfSome};
 ghost use Rattle.uq_value.specs.Size.{leb_size as spec_leb_size, name_size as spec_name_size, most_size};
 ghost use Rattle.uq_value.specs.Depth.{most_depth};

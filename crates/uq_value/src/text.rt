@@ -1,3 +1,4 @@
+//! Texts: bytes within the limit of a value.
 ghost use Rattle.std.specs.Prelude.{◌≡◌, ◌≤◌, IfOk, IfErr, OnOk};
 ghost use Rattle.uq_value.specs.Size.{text_size, most_size};
 ghost use Rattle.uq_value.specs.Faults.{TextFault};
