@@ -10,6 +10,7 @@ use Rattle.uq_value.specs.Plain.{plain, value_of}
 use Rattle.uq_value.specs.Internal.Kept.{plain_member}
 use Rattle.uq_value.specs.Same.{same, alike, data_same, items_same, members_same}
 use Rattle.uq_value.specs.declared.value.Value.{Value}
+use Rattle.uq_value.specs.Internal.Names.{name_of}
 use Rattle.uq_value.specs.declared.object.Member.{Member}
 
 -- the values from a place on are the same in both
@@ -36,7 +37,7 @@ pub fields-apart : (ms ns : List Member) → (length ms ≡ length ns → ⊥) �
 fields-apart [] [] h = absurd (h refl)
 fields-apart [] (n ∷ ns) h = refl
 fields-apart (m ∷ ms) [] h = refl
-fields-apart (m ∷ ms) (n ∷ ns) h = ap (λ b. bytes_eq m.name n.name && same m.value n.value && b) (fields-apart ms ns (λ e. h (omega (arith, e)))) ∙ never (bytes_eq m.name n.name && same m.value n.value)
+fields-apart (m ∷ ms) (n ∷ ns) h = ap (λ b. bytes_eq (name_of m) (name_of n) && same m.value n.value && b) (fields-apart ms ns (λ e. h (omega (arith, e)))) ∙ never (bytes_eq (name_of m) (name_of n) && same m.value n.value)
   where
     never : (b : Bool) → (b && false) ≡ false
     never true = refl

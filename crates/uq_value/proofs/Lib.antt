@@ -6,8 +6,9 @@ pub mod Equality
 pub mod Totals
 pub mod Wholes
 pub mod Named
+pub mod Counted
 pub mod Fields
-pub mod Deepest
+pub mod ByName
 pub mod Limits
 pub mod Level
 pub mod Deeper
@@ -15,5 +16,9 @@ pub mod ListWrite
 pub mod ObjectWrite
 pub mod Steps
 pub mod Puts
-pub mod Setting
-pub mod Halves
+pub mod Keys
+pub mod Rows
+pub mod NamePlaces
+pub mod Searches
+pub mod Edits
+pub mod Tallies

@@ -3,6 +3,10 @@ pub mod Codes
 pub mod Kept
 pub mod Falls
 pub mod Writing
-pub mod Depths
 pub mod Reaching
-pub mod Halfway
+pub mod NameOrder
+pub mod Names
+pub mod Index
+pub mod Tally
+pub mod Beside
+pub mod Building

@@ -1,41 +1,41 @@
-// Objects from members that come one after the other.
+//! Objects from members that come one after the other.
 
-ghost use Rattle.std.specs.Prelude.{◌≡◌, [], ◌∷◌, ◌++◌, true, length, IfOk, IfErr, OnOk, OnErr, Ok};
+ghost use Rattle.std.specs.Prelude.{◌≡◌, [], IfOk, IfErr, OnOk, OnErr, Ok};
 ghost use Rattle.uq_value.specs.Data.{names_of, IsDistinct};
 ghost use Rattle.uq_value.specs.Faults.{Refuses};
 ghost use Rattle.uq_value.specs.Plain.{plain};
 ghost use Rattle.uq_value.specs.Places.{place_of};
 ghost use Rattle.uq_value.specs.Put.{limited, with_member};
-ghost use Rattle.uq_value.specs.Internal.Halfway.{members_kept, Adds, AddFault};
 ghost use Rattle.uq_value.specs.declared.value.Value.{Value};
 
 use crate::error::{NoMemory, ValueFault};
-use crate::measuring::{MOST_DEPTH, depth};
-use crate::object::Object;
+use crate::kept::Kept;
+use crate::object::{Member, Object, add};
 use crate::value::Value;
-use indexmap::IndexMap;
 use std::alloc::Global;
 use std::marker::Model;
 
-/// Members on the way to an object, of any number and size, with distinct names. Each is found by the hash of its name,
-/// so that many are set in linear time. Contracts see the list of their names and plain data.
+/// Members on the way to an object, of any number and size, with distinct names. Each is found in about as many steps
+/// as the logarithm of their number has. Contracts see the list of their names and plain data.
 #[derive(Drop)]
 pub struct ObjectBuilder {
-    members: IndexMap<Vec<u8>, Value>,
+    members: Vec<Member>,
+    kept: Kept,
+    alloc: Global,
 }
 
 impl Model for ObjectBuilder {
-    ghost use Rattle.uq_value.specs.Data.{Pairs, names_of, IsDistinct};
+    ghost use Rattle.uq_value.specs.Data.{Pairs};
     ghost use Rattle.uq_value.specs.Internal.Codes.{members_code};
-    ghost use Rattle.uq_value.specs.Internal.Halfway.{members_kept};
+    ghost use Rattle.uq_value.specs.Internal.Building.{builder_view, IsBuilder};
 
     ghost Value = { Pairs };
 
     ghost coded = { members_code };
 
-    ghost view = { λ b. members_kept b.members.entries };
+    ghost view = { builder_view };
 
-    ghost invariant = { λ b. IsDistinct (names_of (members_kept b.members.entries)) };
+    ghost invariant = { IsBuilder };
 }
 
 impl ObjectBuilder {
@@ -44,7 +44,9 @@ impl ObjectBuilder {
         ensures { result ≡ [] }
     {
         ObjectBuilder {
-            members: IndexMap::new(alloc),
+            members: Vec::new(alloc),
+            kept: Kept::new(),
+            alloc,
         }
     }
 
@@ -56,48 +58,32 @@ impl ObjectBuilder {
         ensures distinct { OnOk result (IsDistinct (names_of self.new)) }
         ensures unchanged { OnErr result (self.new ≡ self.old) }
     {
-        let (place, _) = self.members.insert_full(name, value)?;
-        Ok(place)
+        match self.kept.find(self.members.as_slice(), name.as_slice()) {
+            Ok(at) => {
+                self.members[at].set_value(value);
+                Ok(at)
+            }
+            Err(spot) => {
+                let at = self.members.len();
+                add(
+                    &mut self.members,
+                    &mut self.kept,
+                    self.alloc,
+                    name,
+                    spot,
+                    value,
+                )?;
+                Ok(at)
+            }
+        }
     }
 
     /// The object of these members. Refused is first one that would be `TooDeep`, then one that would be `TooLarge`.
-    pub fn finish(self, alloc: Global) -> Result<Object, ValueFault>
+    pub fn finish(self, _alloc: Global) -> Result<Object, ValueFault>
         ensures ok { IfOk result (λ o. limited (Value.Object self) ≡ Ok (Value.Object o)) }
         ensures refused { IfErr result (Refuses (limited (Value.Object self))) }
     {
-        let ObjectBuilder { members } = self;
-        build(alloc, members)
+        let ObjectBuilder { members, kept, .. } = self;
+        Object::from_members(members, kept)
     }
-}
-
-fn build(alloc: Global, members: IndexMap<Vec<u8>, Value>) -> Result<Object, ValueFault>
-    requires { IsDistinct (names_of (members_kept members.entries)) }
-    ensures ok { IfOk result (λ o. limited (Value.Object (members_kept members.entries)) ≡ Ok (Value.Object o)) }
-    ensures refused { IfErr result (Refuses (limited (Value.Object (members_kept members.entries)))) }
-{
-    let mut object = Object::new(alloc);
-    let mut fits = true;
-    for (name, value) in members {
-        fits = add(&mut object, fits, name, value)?;
-    }
-    if fits {
-        Ok(object)
-    } else {
-        Err(ValueFault::TooLarge)
-    }
-}
-
-/// Adds a member to an object, where all before it are there. The answer is whether this one is there too.
-fn add(object: &mut Object, fits: bool, name: Vec<u8>, value: Value) -> Result<bool, ValueFault>
-    requires { fits ≡ true → place_of name.items (names_of object.old) ≡ length object.old }
-    ensures ok { IfOk result (Adds object.old object.new fits name.items (plain value)) }
-    ensures fault { IfErr result (AddFault (plain value)) }
-{
-    if depth(&value) >= MOST_DEPTH {
-        return Err(ValueFault::TooDeep);
-    }
-    if !fits {
-        return Ok(false);
-    }
-    Ok(object.push_if_small(name, value)?)
 }

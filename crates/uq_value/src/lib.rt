@@ -4,12 +4,16 @@
 mod builder;
 mod comparing;
 mod copying;
+mod depth_counts;
 mod error;
+mod kept;
 mod laws;
 mod list;
 mod measuring;
+mod names;
 mod numbers;
 mod object;
+mod part;
 mod reaching;
 mod reading;
 mod step;

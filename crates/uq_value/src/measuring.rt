@@ -1,8 +1,7 @@
 //! The size and depth of values, which lists and objects keep.
-ghost use Rattle.std.specs.Prelude.{◌≡◌, ◌≤◌, ◌<◌, ◌+◌, ◌^◌, IfSome};
+ghost use Rattle.std.specs.Prelude.{◌≡◌, ◌≤◌, ◌<◌, ◌+◌, ◌^◌};
 ghost use Rattle.uq_value.specs.Size.{leb_size as spec_leb_size, name_size as spec_name_size, most_size};
 ghost use Rattle.uq_value.specs.Depth.{most_depth};
-ghost use Rattle.uq_value.specs.Internal.Depths.{IsDepthAfter};
 ghost use Rattle.uq_value.specs.IsValue.{IsValue};
 ghost use Rattle.uq_value.specs.Plain.{plain, size as spec_size, depth as spec_depth};
 
@@ -78,20 +77,4 @@ pub(crate) fn leb_size(n: usize) -> u64
         rest /= 128;
     }
     10
-}
-
-/// The depth of a list or object, of which one part's depth has changed. None where only the other parts tell: that
-/// part alone may have been the deepest, and is not as deep now.
-pub(crate) fn depth_now(kept: u32, before: u32, after: u32) -> Option<u32>
-    requires before_small { before ≤ most_depth }
-    requires after_small { after ≤ most_depth }
-    ensures { IfSome result (IsDepthAfter kept before after) }
-{
-    if after + 1 >= kept {
-        Some(after + 1)
-    } else if before + 1 < kept {
-        Some(kept)
-    } else {
-        None
-    }
 }
