@@ -1,8 +1,8 @@
 -- What lists and objects keep, and what that says of their parts.
-use Rattle.std.proofs.Common.{◌≡◌, ◌≤◌, ◌<◌, ◌+◌, ◌-◌, ◌^◌, max, ℕ, List, refl, sym, ap, ◌∙◌, arith, [], ◌∷◌, ◌++◌, map, length, subst}
+use Rattle.std.proofs.Common.{◌≡◌, ◌≤◌, ◌<◌, ◌+◌, ◌-◌, ◌^◌, max, ℕ, zero, suc, List, Some, slice_get, refl, sym, ap, ◌∙◌, arith, [], ◌∷◌, ◌++◌, map, length, subst}
 use Rattle.std.proofs.lemmas.List.{length-map, map-append}
 use Rattle.uq_value.specs.Data.{Bytes, Data, Datas, Pairs, list, object, items_of, members_of, names_of, IsDistinct}
-use Rattle.uq_value.specs.Size.{leb_size, name_size, data_size, most_size}
+use Rattle.uq_value.specs.Size.{leb_size, name_size, text_size, data_size, most_size}
 use Rattle.uq_value.specs.Depth.{data_depth, most_depth}
 use Rattle.uq_value.specs.Plain.{plain, size, depth}
 use Rattle.uq_value.specs.IsValue.{IsSound, ItemsAreSound, MembersAreSound, IsValue}
@@ -145,3 +145,13 @@ made_object o distinct s d small shallow c n sound = record { size_is = s; depth
 pub made_list : (l : InList) → l.kept.size ≡ data_size (list (list_view l)) → l.kept.depth ≡ data_depth (list (list_view l)) → l.kept.size ≤ most_size → l.kept.depth ≤ most_depth
     → CountsAre l.kept (map depth l.items.items) → ItemsAreSound (items_of (list_view l)) → IsList l
 made_list l s d small shallow c sound = record { size_is = s; depth_is = d; size_within = small; depth_within = shallow; counts = c; sound = sound }
+
+-- ---- a name is a text
+
+name-within : (ms : List Member) (at : ℕ) (m : Member) → Some m ≡ slice_get ms at → text_size (name_of m) ≤ 1 + total pair_size (map plain_member ms)
+name-within [] at m e = absurd (cc)
+name-within (n ∷ ms) zero m e = let same : m ≡ n = cc in omega (arith, ap (λ x. name_size (name_of x)) same)
+name-within (n ∷ ms) (suc at) m e = omega (arith, name-within ms at m e)
+
+pub name-fits : (o : InObject) → IsObject o → (at : ℕ) (m : Member) → Some m ≡ slice_get o.members.items at → text_size (name_of m) ≤ most_size
+name-fits o h at m e = omega (arith, name-within o.members.items at m e, object-size (object_view o), h.size_is, h.size_within)

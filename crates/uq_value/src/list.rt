@@ -1,3 +1,4 @@
+//! Lists, and writes within them.
 ghost use Rattle.std.specs.Prelude.{◌≡◌, ◌≤◌, ◌<◌, ◌+◌, [], ◌∷◌, ◌++◌, ◌-◌, ◌^◌, min, map, length, slice_get, option_copied, IfOk, IfErr, OnOk, OnErr, Ok, Err, MatchResult};
 ghost use Rattle.uq_value.specs.Data.{list, items_of};
 ghost use Rattle.uq_value.specs.Faults.{Refuses};

@@ -1,4 +1,5 @@
-ghost use Rattle.std.specs.Prelude.{◌≡◌, ◌≤◌, ◌<◌, ◌+◌, [], ◌∷◌, ◌++◌, ℕ, List, length, map, min, ◌-◌, ◌^◌, slice_get, option_copied, option_map, IfOk, IfErr, OnOk, OnErr, Ok};
+//! Objects, and writes within them.
+ghost use Rattle.std.specs.Prelude.{◌≡◌, ◌≤◌, ◌<◌, ◌+◌, [], ◌∷◌, ◌++◌, ℕ, List, length, map, min, ◌-◌, ◌^◌, slice_get, option_copied, option_map, IfSome, IfOk, IfErr, OnOk, OnErr, Ok};
 ghost use Rattle.uq_value.specs.Faults.{Refuses};
 ghost use Rattle.uq_value.specs.Put.{limited, named};
 ghost use Rattle.uq_value.specs.Internal.Writing.{put_at, name_at, object_beside_next};
@@ -7,7 +8,7 @@ ghost use Rattle.uq_value.specs.Internal.Names.{name_of, names, member_depth};
 ghost use Rattle.uq_value.specs.Internal.Kept.{plain_member};
 ghost use Rattle.uq_value.specs.Internal.Beside.{CountsAre, NamesAre, LacksAt};
 ghost use Rattle.uq_value.specs.Data.{object, members_of, IsDistinct};
-ghost use Rattle.uq_value.specs.Size.{data_size, most_size};
+ghost use Rattle.uq_value.specs.Size.{data_size, text_size, most_size};
 ghost use Rattle.uq_value.specs.Depth.{data_depth, most_depth};
 ghost use Rattle.uq_value.specs.IsValue.{IsValue, MembersAreSound};
 ghost use Rattle.uq_value.specs.Plain.{members as spec_members, plain, depth as spec_depth};
@@ -109,9 +110,10 @@ impl Object {
         self.members.is_empty()
     }
 
-    /// The name and value of the member at a place from 0 on, in order of first insertion.
+    /// The name and value of the member at a place from 0 on, in order of first insertion. The name fits in a text.
     pub fn member(&self, at: usize) -> Option<(&[u8], &Value)>
-        ensures { option_map (λ m. (m.0.now, m.1.now)) result ≡ slice_get (spec_members self.now) at }
+        ensures member { option_map (λ m. (m.0.now, m.1.now)) result ≡ slice_get (spec_members self.now) at }
+        ensures fits { IfSome result (λ m. text_size m.0.now ≤ most_size) }
     {
         match sqlite_items::at(self.members.as_slice(), at) {
             Some(m) => {

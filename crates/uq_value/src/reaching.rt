@@ -1,4 +1,4 @@
-// Where steps lead, and the first that leads nowhere.
+//! Where steps lead, and the first that leads nowhere.
 
 ghost use Rattle.std.specs.Prelude.{◌≡◌, Ok, Err, MatchResult, MatchOption, option_copied};
 ghost use Rattle.uq_value.specs.declared.value.Value.{Value};

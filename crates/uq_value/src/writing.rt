@@ -1,5 +1,5 @@
-// Writing in place. A write goes down to the end of its steps with the size that is left for what stands there. All
-// that can be refused is refused before anything changes, and lists and objects mend their kept numbers on the way up.
+//! Writing in place. A write goes down to the end of its steps with the size that is left for what stands there. All
+//! that can be refused is refused before anything changes, and lists and objects mend their kept numbers on the way up.
 
 ghost use Rattle.std.specs.Prelude.{◌≡◌, ◌≤◌, ◌<◌, ◌+◌, [], ◌∷◌, length, Ok, OnOk, OnErr, IfErr};
 ghost use Rattle.uq_value.specs.Size.{most_size};

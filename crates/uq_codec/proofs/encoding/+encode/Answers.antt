@@ -25,15 +25,15 @@ push_list-returns t c =
     list_written c.args.out.now.items c.loop-at.out.items c.loop-at.at c.args.list.now (omega (arith, c.loop-at-test.false, c.loop-at.auto.at-end, c.len-at-end.ensures)) c.loop-at.invariant
 
 pub push_member-push_value-requires : goal.push_member-push_value-requires
-push_member-push_value-requires t c = let less = (member_there c.args.object.now c.args.at c.in-Some.name.now c.in-Some.value.now c.in-Some.ensures).less_deep in (omega (arith, less, c.decreases), tt)
+push_member-push_value-requires t c = let less = (member_there c.args.object.now c.args.at c.in-Some.name.now c.in-Some.value.now c.in-Some.ensures.member).less_deep in (omega (arith, less, c.decreases), tt)
 
 pub push_member-unreachable-requires : goal.push_member-unreachable-requires
-push_member-unreachable-requires t c = member_not_there c.args.object.now c.args.at c.requires c.in-None.ensures
+push_member-unreachable-requires t c = member_not_there c.args.object.now c.args.at c.requires c.in-None.ensures.member
 
 pub push_member-returns : goal.push_member-returns
 push_member-returns t c =
     named_written c.in-Some.name.now c.in-Some.value.now c.args.object.now c.args.at c.args.out.now.items c.push_name.new.out.items c.push_value.new.out.items c.push_value.result
-    (member_there c.args.object.now c.args.at c.in-Some.name.now c.in-Some.value.now c.in-Some.ensures) c.in_ok-push_name-in-Some.ensures c.push_value.ensures
+    (member_there c.args.object.now c.args.at c.in-Some.name.now c.in-Some.value.now c.in-Some.ensures.member) c.in_ok-push_name-in-Some.ensures c.push_value.ensures
 
 pub push_object-loop-at-preserved : goal.push_object-loop-at-preserved
 push_object-loop-at-preserved t c =

@@ -27,14 +27,14 @@ push_list-returns t c =
     (omega (arith, items_count c.args.list.now, c.loop-at-test.false, c.len-at-end.ensures)) c.loop-at.invariant c.in_ok-push-2.ensures.items
 
 pub push_member-push_value-requires : goal.push_member-push_value-requires
-push_member-push_value-requires t c = let less = (member_there c.args.object.now c.args.at c.in-Some.name.now c.in-Some.value.now c.in-Some.ensures).less_deep in (omega (arith, less, c.decreases), tt)
+push_member-push_value-requires t c = let less = (member_there c.args.object.now c.args.at c.in-Some.name.now c.in-Some.value.now c.in-Some.ensures.member).less_deep in (omega (arith, less, c.decreases), tt)
 
 pub push_member-returns : goal.push_member-returns
 push_member-returns t c = on_ok_weaker c.push_value.result
-    (pair_text c.args.object.now c.args.at c.in-Some.name.now c.in-Some.value.now c.args.text.now.items c.push_comma.new.text.items c.push_quoted.new.text.items c.push.new.self.items c.push_value.new.text.items c.in-Some.ensures c.in_ok-push_comma.ensures c.in_ok-push_quoted-in-Some.ensures c.in_ok-push-in-Some.ensures.items) c.push_value.ensures
+    (pair_text c.args.object.now c.args.at c.in-Some.name.now c.in-Some.value.now c.args.text.now.items c.push_comma.new.text.items c.push_quoted.new.text.items c.push.new.self.items c.push_value.new.text.items c.in-Some.ensures.member c.in_ok-push_comma.ensures c.in_ok-push_quoted-in-Some.ensures c.in_ok-push-in-Some.ensures.items) c.push_value.ensures
 
 pub push_member-unreachable-requires : goal.push_member-unreachable-requires
-push_member-unreachable-requires t c = member_not_there c.args.object.now c.args.at c.requires c.in-None.ensures
+push_member-unreachable-requires t c = member_not_there c.args.object.now c.args.at c.requires c.in-None.ensures.member
 
 pub push_object-loop-at-preserved : goal.push_object-loop-at-preserved
 push_object-loop-at-preserved t c =
