@@ -13,6 +13,9 @@ use crate::varint::{read_length, read_name};
 use std::alloc::Global;
 use uq_value::{List, MOST_DEPTH, ObjectBuilder, Text, Value, ValueFault, is_value};
 
+/// A list takes room for so many items at most before they are read, since what its length claims need not come.
+const MOST_AT_ONCE: usize = 1_024;
+
 /// The value whose stored form is next, and how many bytes that takes. It is `NotCanonical` exactly where the bytes do
 /// not begin with a stored form.
 pub fn decode(alloc: Global, bytes: &[u8]) -> Result<(Value, usize), CodecFault>
@@ -94,7 +97,10 @@ fn items(alloc: Global, room: u32, count: usize, bytes: &[u8]) -> Result<(List, 
     requires { suc room ≤ most_depth }
     ensures { ReadsItems (suc room) count bytes.now result }
 {
-    let mut found = List::new(alloc);
+    let room_for = count.min(bytes.len()).min(MOST_AT_ONCE);
+    let Ok(mut found) = List::with_capacity(alloc, room_for) else {
+        return Err(CodecFault::Memory);
+    };
     let mut rest = bytes;
     for _ in 0..count {
         let (item, behind) = value(alloc, room, rest)?;

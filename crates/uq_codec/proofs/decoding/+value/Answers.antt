@@ -11,7 +11,7 @@ use Rattle.uq_codec.proofs.Objects.{MembersSoFar, no_name, member_fails, member_
 use Rattle.uq_codec.proofs.decoding.+value.Goals as goal
 
 pub items-loop-init : goal.items-loop-init
-items-loop-init t c = subst (λ (ds : Datas). ItemsSoFar (suc c.args.room) 0 ds c.args.bytes.now c.args.bytes.now) (sym c.new-found.ensures) (no_items_yet c.args.room c.args.bytes.now)
+items-loop-init t c = subst (λ (ds : Datas). ItemsSoFar (suc c.args.room) 0 ds c.args.bytes.now c.args.bytes.now) (sym c.in-Ok.ensures) (no_items_yet c.args.room c.args.bytes.now)
 
 pub items-returns-in_err-item : goal.items-returns-in_err-item
 items-returns-in_err-item t c =
