@@ -1,0 +1,5 @@
+pub mod Runs
+pub mod SignLemmas
+pub mod InsideLemmas
+pub mod FrontLemmas
+pub mod OneAnswer
