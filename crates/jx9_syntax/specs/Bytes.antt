@@ -1,5 +1,5 @@
 -- Classes of bytes, and runs of a class.
-use Rattle.std.specs.Prelude.{ℕ, ◌+◌, ◌*◌, nat_le, Bool, true, not, ◌&&◌, ◌||◌, ◌==◌, ◌≡◌, if◌then◌else◌, [], ◌∷◌}
+use Rattle.std.specs.Prelude.{ℕ, ◌+◌, ◌*◌, nat_le, Bool, true, not, ◌&&◌, ◌||◌, ◌==◌, ◌≡◌, if◌then◌else◌, [], ◌∷◌, count_by}
 use Rattle.std.specs.List.{list_all}
 use Rattle.std.specs.Char.{is_ascii_alphabetic, is_ascii_digit, digit_value}
 use Rattle.uq_value.specs.Data.{Bytes}
@@ -41,5 +41,4 @@ value_in base n (c ∷ cs) = value_in base (n * base + digit_value c) cs
 
 -- how many line feeds there are
 abbrev pub breaks : Bytes → ℕ
-breaks [] = 0
-breaks (b ∷ bs) = if b == 0x0a then 1 + breaks bs else breaks bs
+breaks word = count_by (λ b. b == 0x0a) word
