@@ -12,7 +12,6 @@ use Rattle.jx9_syntax.specs.declared.token.TokenKind.TheVariants as kind
 use Rattle.jx9_lex.specs.Answer.{tokens_of, IsLexFault, FaultAt}
 use Rattle.jx9_lex.specs.Cuts.{IsBad, Fails, TakesFront}
 use Rattle.jx9_lex.specs.declared.error.LexFault.{LexFault}
-use Rattle.jx9_lex.specs.declared.error.LexFault.TheVariants as fault
 use Rattle.jx9_lex.specs.declared.stop.Stop.{Stop}
 use Rattle.jx9_lex.specs.declared.stop.Stop.TheVariants as stop
 

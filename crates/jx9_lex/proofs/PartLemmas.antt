@@ -1,14 +1,13 @@
 -- Parts of a text in quotes, put together.
-use Rattle.std.proofs.Common.{◌≡◌, ◌≢◌, ◌<◌, ◌≤◌, ℕ, Bool, true, false, eqb, Err, ◌⊎◌, inl, inr, List, [], ◌∷◌, ◌++◌, map, length, refl, sym, ap, subst, ◌∙◌, append_assoc, append-nil, arith}
+use Rattle.std.proofs.Common.{◌≡◌, ◌≢◌, ◌<◌, ℕ, true, false, eqb, Err, inl, inr, List, [], ◌∷◌, ◌++◌, map, length, refl, sym, ap, subst, ◌∙◌, append_assoc, append-nil, arith}
 use Rattle.std.proofs.lemmas.Bool.{eqb-true, eqb-false}
 use Rattle.std.proofs.lemmas.List.{map-append}
 use Rattle.uq_value.specs.Data.{Bytes}
-use Rattle.uq_value.specs.Size.{text_size, most_size, leb_size}
+use Rattle.uq_value.specs.Size.{text_size, most_size}
 use Rattle.jx9_syntax.specs.Quoted.{Piece, byte, variable, with_byte, parts_of}
 use Rattle.jx9_syntax.specs.Tokens.{FitsText, PartsFit, InLimit, quoted_kind}
 use Rattle.jx9_syntax.specs.declared.parts.Part.{Part}
 use Rattle.jx9_syntax.specs.declared.parts.Part.TheVariants as part
-use Rattle.jx9_syntax.specs.declared.token.TokenKind.{TokenKind}
 use Rattle.jx9_syntax.specs.declared.token.TokenKind.TheVariants as kind
 use Rattle.jx9_lex.specs.declared.stop.Stop.{Stop}
 use Rattle.jx9_lex.specs.declared.stop.Stop.TheVariants.{Bad, Memory}

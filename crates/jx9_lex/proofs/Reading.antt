@@ -1,5 +1,5 @@
 -- Reading a text in quotes, piece by piece.
-use Rattle.std.proofs.Common.{◌≡◌, ◌<◌, ◌≤◌, ℕ, zero, suc, ◌+◌, ◌*◌, Bool, true, false, cond, not, eqb, ◌&&◌, ◌||◌, inl, inr, List, [], ◌∷◌, ◌++◌, map, length, Option, Some, None, Ok, Err, refl, sym, ap, subst, ◌∙◌, append_assoc, append-nil, arith}
+use Rattle.std.proofs.Common.{◌≡◌, ◌<◌, ◌≤◌, ℕ, zero, suc, ◌+◌, ◌*◌, Bool, true, false, cond, not, eqb, ◌&&◌, ◌||◌, inl, inr, List, [], ◌∷◌, ◌++◌, map, length, Option, Some, None, refl, sym, ap, subst, ◌∙◌, append_assoc, arith}
 use Rattle.std.proofs.lemmas.Bool.{eqb-true}
 use Rattle.std.proofs.lemmas.List.{map-append}
 use Rattle.uq_value.specs.Data.{Bytes}
@@ -8,7 +8,7 @@ use Rattle.jx9_syntax.specs.Quoted.{Piece, byte, Cut, backslash, letter, letter_
 use Rattle.jx9_syntax.specs.Quoted as quoted
 use Rattle.std.specs.Char.{is_ascii_hexdigit, digit_value}
 use Rattle.jx9_syntax.specs.Bytes.{is_letter, is_name_byte}
-use Rattle.jx9_syntax.specs.Tokens.{Of, IsQuote, PartsFit, InLimit, quoted_kind}
+use Rattle.jx9_syntax.specs.Tokens.{Of, IsQuote, quoted_kind}
 use Rattle.jx9_syntax.specs.Front.{Taken, ◌>>=◌, pieces_within, quoted_at}
 use Rattle.jx9_syntax.specs.declared.parts.Part.{Part}
 use Rattle.jx9_lex.specs.Classes.{test, verbatim_class}

@@ -1,5 +1,5 @@
 -- The parts of a text in quotes, as far as they are read.
-use Rattle.std.specs.Prelude.{◌≡◌, ℕ, ◌⊎◌, List, [], ◌∷◌, ◌++◌, map, Option, Some, None, Result, Ok, Err}
+use Rattle.std.specs.Prelude.{◌≡◌, ◌⊎◌, List, [], ◌∷◌, ◌++◌, map, Option, Some, None, Result, Ok, Err}
 use Rattle.uq_value.specs.Data.{Bytes}
 use Rattle.jx9_syntax.specs.Quoted.{Piece, byte, variable, parts_of}
 use Rattle.jx9_syntax.specs.Tokens.{Of, PartsFit, InLimit, quoted_kind}

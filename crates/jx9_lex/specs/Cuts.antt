@@ -3,7 +3,7 @@ use Rattle.std.specs.Prelude.{◌≡◌, ◌<◌, ◌==◌, ℤ, [], ◌∷◌, 
 use Rattle.std.specs.Borrow.{Bor}
 use Rattle.uq_value.specs.Data.{Bytes}
 use Rattle.uq_value.specs.Size.{text_size, most_size}
-use Rattle.jx9_syntax.specs.Tokens.{Lexeme, Of, Gap, Unclosed, FitsText, InLimit}
+use Rattle.jx9_syntax.specs.Tokens.{Of, Gap, Unclosed, FitsText, InLimit}
 use Rattle.jx9_syntax.specs.Bytes.{Class, is_name_byte, run, behind}
 use Rattle.jx9_syntax.specs.Front.{Taken, slash_at, other_at}
 use Rattle.jx9_syntax.specs.declared.token.TokenKind.{TokenKind}

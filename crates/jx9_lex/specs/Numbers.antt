@@ -1,5 +1,5 @@
 -- The number at the front of a text.
-use Rattle.std.specs.Prelude.{ℕ, Bool, false, ◌==◌, [], ◌∷◌, None}
+use Rattle.std.specs.Prelude.{Bool, false, ◌==◌, [], ◌∷◌, None}
 use Rattle.uq_value.specs.Data.{Bytes}
 use Rattle.jx9_syntax.specs.Bytes.{Class}
 use Rattle.jx9_syntax.specs.Front.{Taken, number_at}

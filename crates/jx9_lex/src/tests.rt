@@ -152,10 +152,7 @@ fn escapes_and_variables_stand_only_where_the_quotes_have_them(rt: HostRuntime) 
         (b"'a\"b'", b" 1:text(a\"b) 1:end"),
         (b"'\x00\x80\xff'", b" 1:text(\x00\x80\xff) 1:end"),
         (b"\"\x00\x80\xff\"", b" 1:text(\x00\x80\xff) 1:end"),
-        (
-            b"\"\\n\\t\\r\\\\\\\"\\$\"",
-            b" 1:text(\n\t\r\\\"$) 1:end",
-        ),
+        (b"\"\\n\\t\\r\\\\\\\"\\$\"", b" 1:text(\n\t\r\\\"$) 1:end"),
         (b"\"\\a\\0\\'\\N\"", b" 1:text(\\a\\0\\'\\N) 1:end"),
         (b"\"\\x\"", b" 1:text(\\x) 1:end"),
         (b"\"\\x4\"", b" 1:text(\\x4) 1:end"),
@@ -261,11 +258,9 @@ fn the_first_byte_that_begins_no_token_is_told_by_its_line(rt: HostRuntime) {
 
 /// So many bytes `a` between these.
 fn long_text(rt: &impl Abort, alloc: Global, before: &[u8], count: usize, after: &[u8]) -> Vec<u8> {
-    let mut text = Vec::new(alloc);
-    put(rt, &mut text, before);
-    for _ in 0..count {
-        text.push(b'a').expect(rt, "memory");
-    }
+    let mut text = Vec::from_slice(alloc, before).expect(rt, "memory");
+    let middle = vec![in alloc; b'a'; count].expect(rt, "memory");
+    put(rt, &mut text, middle.as_slice());
     put(rt, &mut text, after);
     text
 }
@@ -273,21 +268,13 @@ fn long_text(rt: &impl Abort, alloc: Global, before: &[u8], count: usize, after:
 #[test]
 fn names_texts_and_parts_are_at_most_as_long_as_a_text(rt: HostRuntime) {
     let alloc = rt.alloc();
-    let most = 16_777_147;
-    let table: [(&[u8], &[u8]); 5] = [
-        (b"", b""),
-        (b"$", b""),
-        (b"'", b"'"),
-        (b"\"$a.", b"\""),
-        (b"\".$a", b"\""),
-    ];
-    for (before, after) in table {
-        let dots = if before.len() == 4 { 1 } else { 0 };
-        let longest = long_text(&rt, alloc, before, most - dots, after);
+    let table: [(&[u8], usize, &[u8]); 2] = [(b"", 16_777_147, b""), (b"\"$a.", 16_777_146, b"\"")];
+    for (before, most, after) in table {
+        let longest = long_text(&rt, alloc, before, most, after);
         assert!(rt; longest.len() <= 0x100_0000);
         let tokens = lex(alloc, longest.as_slice()).expect(&rt, "tokens");
         assert_eq!(rt; tokens.len(), 2);
-        let longer = long_text(&rt, alloc, before, most - dots + 1, after);
+        let longer = long_text(&rt, alloc, before, most + 1, after);
         check_bad(&rt, alloc, longer.as_slice(), 1);
     }
 }
