@@ -1,9 +1,9 @@
 -- The grammar, one case for each rule. What stands within a construct has one level of nesting less.
-use Rattle.std.specs.Prelude.{◌≡◌, ℕ, zero, suc, ◌+◌, ◌==◌, nat_le, Bool, true, false, ◌&&◌, if◌then◌else◌, pos, List, [], ◌∷◌, ◌++◌, Option, Some, None, ◌⊎◌, codes}
+use Rattle.std.specs.Prelude.{◌≡◌, ℕ, zero, suc, ◌==◌, Bool, true, false, if◌then◌else◌, List, [], ◌∷◌, ◌++◌, Option, Some, None, ◌⊎◌, codes}
 use Rattle.std.specs.Str.{bytes_eq}
 use Rattle.uq_value.specs.Data.{Bytes}
 use Rattle.jx9_syntax.specs.Words.{Language, One, Nothing, Map, Then, Many}
-use Rattle.jx9_syntax.specs.Making.{Making, Made, nothing, of_token, mapped, then_made, all_made, lambda_made}
+use Rattle.jx9_syntax.specs.Making.{Making, nothing, of_token, mapped, then_made, all_made, lambda_made}
 use Rattle.jx9_syntax.specs.Trees.{StatementLayer, kind_of}
 use Rattle.jx9_syntax.specs.declared.expression.Access
 use Rattle.jx9_syntax.specs.declared.expression.Access.{Access as AccessTree}
@@ -20,7 +20,6 @@ use Rattle.jx9_syntax.specs.declared.expression.Node
 use Rattle.jx9_syntax.specs.declared.expression.Place.{Place}
 use Rattle.jx9_syntax.specs.declared.expression.Step.{Step}
 use Rattle.jx9_syntax.specs.declared.expression.Step.TheVariants as step
-use Rattle.jx9_syntax.specs.declared.parts.Part.{Part}
 use Rattle.jx9_syntax.specs.declared.program.Function.{Function}
 use Rattle.jx9_syntax.specs.declared.program.Named.{Named}
 use Rattle.jx9_syntax.specs.declared.sign.Sign.{Sign}
@@ -432,11 +431,11 @@ ends_open (suc k) s = ends_open_in (ends_open k) (kind_of s)
 abbrev pub branch_of : Expr → Statement → Branch
 branch_of e s = record { test = e; body = s }
 
--- `else` goes to the nearest `if` that may have it
+-- no `else` could belong to an `if` in the branch
 abbrev pub IsClosed : (Statement → Bool) → Making Branch → Type 0
 IsClosed mark b = mark ((b 0 0).made).body ≡ false
 
--- what a branch is behind: `if` or `elseif`
+-- what is behind `else`
 abbrev pub option_made : Option (Making Statement) → Making (Option Statement)
 option_made None = nothing None
 option_made (Some s) = mapped (λ t. Some t) s
@@ -448,9 +447,6 @@ key_and_value v (Some w) = (Some v, w)
 
 abbrev pub VarName : Rule Bytes
 VarName = Map (One var) (mapped (λ v. v.0))
-
-abbrev pub word_is : Bytes → Token → Option (Making Spot)
-word_is w = is_word w
 
 module _ (expr inner : Rule Expr) (stmt : Rule Statement) (block : Rule Statement) (mark : Statement → Bool) where
   -- ( expr )
@@ -502,10 +498,6 @@ abbrev pub IsBlock : Rule Statement → Rule Statement
 IsBlock stmt = Seq (λ p ss. stands p (Kind.Block ss)) (One (is_sign sign.OpenBrace)) (Ending (Repeat stmt) (is_sign sign.CloseBrace))
 
 -- ---- nesting at most the number
-
--- an expression of nesting one more than what stands within
-abbrev pub ExprOver : Rule Expr → Rule Expr → Rule Statement → Rule Expr
-ExprOver un expr block = IsExpr un expr block
 
 unfoldable mutual
   pub UnaryWithin : ℕ → List Token → Making Expr → Type 0

@@ -1,7 +1,6 @@
 -- What a word makes, wherever it stands: a tree, by the number of its first token and that of the next lambda.
-use Rattle.std.specs.Prelude.{ℕ, suc, ◌+◌, List, [], ◌∷◌, ◌++◌, length, Option, Some, None}
+use Rattle.std.specs.Prelude.{ℕ, suc, ◌+◌, List, [], ◌∷◌, ◌++◌, length}
 use Rattle.jx9_syntax.specs.declared.program.Function.{Function}
-use Rattle.jx9_syntax.specs.declared.token.Token.{Token}
 
 -- what is made, the number of the token behind it, and the lambdas in it by their numbers
 pub record Made (A : Type 0) : Type 0 where

@@ -4,7 +4,6 @@ use Rattle.uq_value.specs.Data.{Bytes}
 use Rattle.jx9_syntax.specs.Trees.{node_of, access_of, kind_of}
 use Rattle.jx9_syntax.specs.declared.expression.Access.{Access}
 use Rattle.jx9_syntax.specs.declared.expression.Access.TheOpen.{Node-F, Access-F}
-use Rattle.jx9_syntax.specs.declared.expression.Binary.{Binary}
 use Rattle.jx9_syntax.specs.declared.expression.Change.{Change as Operation}
 use Rattle.jx9_syntax.specs.declared.expression.Entry.{Entry}
 use Rattle.jx9_syntax.specs.declared.expression.Expr.{Expr}
@@ -18,6 +17,10 @@ use Rattle.jx9_syntax.specs.declared.program.Named.{Named}
 use Rattle.jx9_syntax.specs.declared.statement.Branch.{Branch}
 use Rattle.jx9_syntax.specs.declared.statement.Kind.TheOpen.{Kind-F}
 use Rattle.jx9_syntax.specs.declared.statement.Statement.{Statement}
+
+-- the limit of a program
+abbrev pub most_nesting : ℕ
+most_nesting = 200
 
 -- the nesting is at most the number; the block of a lambda is found in the table
 mutual

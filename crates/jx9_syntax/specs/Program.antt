@@ -2,15 +2,13 @@
 use Rattle.std.specs.Prelude.{◌≡◌, ℕ, suc, ◌<◌, List, [], ◌∷◌, ◌++◌, length, take}
 use Rattle.jx9_syntax.specs.Words.{Many}
 use Rattle.jx9_syntax.specs.Making.{Making, Made, all_made}
+use Rattle.jx9_syntax.specs.Nesting.{most_nesting}
 use Rattle.jx9_syntax.specs.Grammar.{code, Item, Define, Run, ItemWithin}
 use Rattle.jx9_syntax.specs.declared.program.Function.{Function}
 use Rattle.jx9_syntax.specs.declared.program.Named.{Named}
 use Rattle.jx9_syntax.specs.declared.program.Program.{Program}
 use Rattle.jx9_syntax.specs.declared.statement.Statement.{Statement}
 use Rattle.jx9_syntax.specs.declared.token.Token.{Token}
-
-abbrev pub most_nesting : ℕ
-most_nesting = 200
 
 abbrev pub definitions : List Item → List Named
 definitions [] = []

@@ -84,3 +84,12 @@ abbrev pub parts_of : List Piece → List Part
 parts_of [] = []
 parts_of (byte b ∷ ps) = with_byte b (parts_of ps)
 parts_of (variable name ∷ ps) = Var name ∷ parts_of ps
+
+-- no text is empty, and no two texts stand side by side
+abbrev pub StandApart : List Part → Type 0
+StandApart [] = Unit {0}
+StandApart (Var name ∷ ps) = StandApart ps
+StandApart (Text [] ∷ ps) = ⊥
+StandApart (Text (b ∷ bs) ∷ []) = Unit {0}
+StandApart (Text (b ∷ bs) ∷ Text cs ∷ ps) = ⊥
+StandApart (Text (b ∷ bs) ∷ Var name ∷ ps) = StandApart ps

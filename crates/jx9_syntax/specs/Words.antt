@@ -1,5 +1,5 @@
 -- Sets of token lists with what each means, and how they are put together.
-use Rattle.std.specs.Prelude.{◌≡◌, ℕ, List, [], ◌∷◌, ◌++◌, Option, Some, None}
+use Rattle.std.specs.Prelude.{◌≡◌, List, [], ◌∷◌, ◌++◌, Option, Some}
 use Rattle.jx9_syntax.specs.declared.token.Token.{Token}
 
 -- which lists of tokens are words, and what each means

@@ -1,6 +1,8 @@
 //! Laws of the definitions, each the contract of a function that does nothing.
 
+ghost use Rattle.std.specs.Prelude.{List};
 ghost use Rattle.uq_value.specs.Data.{Bytes};
+ghost use Rattle.jx9_syntax.specs.Quoted.{Piece, parts_of, StandApart};
 ghost use Rattle.jx9_syntax.specs.Tokens.{HasOneAnswer};
 ghost use Rattle.jx9_syntax.specs.Front.{front, IsFront};
 
@@ -13,4 +15,9 @@ pub fn front_is_longest()
 /// A text has one list of tokens, or none, and then it is stuck at one line.
 pub fn one_list()
     ensures { (text : Bytes) → HasOneAnswer text }
+{}
+
+/// Among the parts of a text in quotes no text is empty, and no two texts stand side by side.
+pub fn parts_stand_apart()
+    ensures { (ps : List Piece) → StandApart (parts_of ps) }
 {}

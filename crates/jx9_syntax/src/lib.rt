@@ -10,7 +10,7 @@ mod statement;
 mod token;
 
 pub use expression::{Access, Binary, Change, Entry, Expr, Link, Literal, Node, Place, Step};
-pub use laws::{front_is_longest, one_list};
+pub use laws::{front_is_longest, one_list, parts_stand_apart};
 pub use parts::{Part, Parts};
 pub use program::{Function, Named, Program};
 pub use sign::Sign;

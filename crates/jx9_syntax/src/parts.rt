@@ -14,7 +14,7 @@ pub enum Part {
     Var(Text),
 }
 
-/// Parts in order. No text among them is empty, and no two texts stand side by side. Contracts see the list.
+/// Parts in order. In those of a token no text is empty, and no two texts stand side by side. Contracts see the list.
 #[derive(Drop)]
 pub struct Parts {
     parts: Vec<Part>,

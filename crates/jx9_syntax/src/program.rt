@@ -1,6 +1,6 @@
 //! Whole programs.
 
-ghost use Rattle.jx9_syntax.specs.Nesting.{ProgramFits};
+ghost use Rattle.jx9_syntax.specs.Nesting.{ProgramFits, most_nesting};
 
 use crate::statement::Statement;
 use sqlite_items::Items;
@@ -37,5 +37,5 @@ pub struct Program {
     pub lambdas: Items<Function>,
     /// The statements at the top, in order of text.
     pub statements: Items<Statement>,
-    ghost nested: { ∥ ProgramFits 200 functions lambdas statements ∥₁ },
+    ghost nested: { ∥ ProgramFits most_nesting functions lambdas statements ∥₁ },
 }
