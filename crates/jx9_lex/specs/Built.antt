@@ -7,6 +7,7 @@ use Rattle.jx9_syntax.specs.Front.{Taken, ◌>>=◌}
 use Rattle.jx9_syntax.specs.declared.parts.Part.{Part}
 use Rattle.jx9_syntax.specs.declared.token.TokenKind.{TokenKind}
 use Rattle.jx9_syntax.specs.declared.token.TokenKind.TheVariants as kind
+use Rattle.jx9_lex.specs.declared.builder.Builder.{Builder}
 use Rattle.jx9_lex.specs.declared.piece.Piece.{Piece as Piece'}
 use Rattle.jx9_lex.specs.declared.piece.Piece.TheVariants.{Byte, Variable}
 use Rattle.jx9_lex.specs.declared.stop.Stop.{Stop}
@@ -42,6 +43,9 @@ pub record AddsPiece (p : Piece) (old : List Part) (old_bytes : Bytes) (new : Li
   pub shows : (ps : List Piece) → all_parts new new_bytes ps ≡ all_parts old old_bytes (p ∷ ps)
   pub fits : PartsFit old → PartsFit new
   pub is_open : IsOpen old → IsOpen new
+
+abbrev pub Adds : Piece → Builder → Builder → Type 0
+Adds p old new = AddsPiece p old.parts.items old.pending.items new.parts.items new.pending.items
 
 -- with this piece they can't be within the limits
 abbrev pub CannotAdd : Piece → List Part → Bytes → Stop → Type 0

@@ -3,7 +3,7 @@
 ghost use Rattle.std.specs.Prelude.{◌≡◌, [], ◌++◌, Err, IfOk, IfErr, OnOk};
 ghost use Rattle.jx9_syntax.specs.Quoted.{variable};
 ghost use Rattle.jx9_syntax.specs.Tokens.{PartsFit, quoted_kind};
-ghost use Rattle.jx9_lex.specs.Built.{piece as spec_piece, all_parts, text_parts, IsOpen, AddsPiece, CannotAdd, GivesKind, GivesParts};
+ghost use Rattle.jx9_lex.specs.Built.{piece as spec_piece, all_parts, text_parts, IsOpen, Adds, CannotAdd, GivesKind, GivesParts};
 ghost use Rattle.jx9_lex.specs.declared.stop.Stop.TheVariants.{Memory};
 
 use crate::piece::Piece;
@@ -44,7 +44,7 @@ impl Builder {
 
     /// With a piece at the end.
     pub(crate) fn with_piece(self, alloc: Global, piece: Piece<'_>) -> Result<Builder, Stop>
-        ensures ok { IfOk result (λ new. AddsPiece (spec_piece piece.entry) self.parts.items self.pending.items new.parts.items new.pending.items) }
+        ensures ok { IfOk result (Adds (spec_piece piece.entry) self) }
         ensures err { IfErr result (CannotAdd (spec_piece piece.entry) self.parts.items self.pending.items) }
     {
         match piece {
@@ -59,7 +59,7 @@ impl Builder {
 
     /// With a variable at the end. The bytes before it are a part.
     fn with_variable(self, alloc: Global, name: &[u8]) -> Result<Builder, Stop>
-        ensures ok { IfOk result (λ new. AddsPiece (variable name.now) self.parts.items self.pending.items new.parts.items new.pending.items) }
+        ensures ok { IfOk result (Adds (variable name.now) self) }
         ensures err { IfErr result (CannotAdd (variable name.now) self.parts.items self.pending.items) }
     {
         let Builder { parts, pending } = self;

@@ -1,10 +1,10 @@
 //! One piece of a text in quotes: a byte that stands for itself, an escape, or a variable.
 
-ghost use Rattle.std.specs.Prelude.{◌≡◌, ◌<◌, ◌≤◌, length, IfSome, ◌∷◌, ◌+◌, ◌*◌, ◌&&◌, Some, None, if◌then◌else◌};
-ghost use Rattle.std.specs.Char.{is_ascii_hexdigit, digit_value};
+ghost use Rattle.std.specs.Prelude.{◌≡◌, ◌<◌, ◌≤◌, length, IfSome, ◌∷◌, Some};
 ghost use Rattle.std.specs.Option.{option_map};
 ghost use Rattle.jx9_syntax.specs.Quoted.{letter as spec_letter, number_escape_at, single_escape_at, double_escape_at, escape_at, dollar_at, piece_at};
 ghost use Rattle.jx9_lex.specs.Built.{piece};
+ghost use Rattle.jx9_lex.specs.Numbers.{hexadecimal_byte};
 
 use crate::class::{Class, is_letter, split_run};
 use crate::numbers::hex_digit;
@@ -106,7 +106,7 @@ fn number_escape<'t>(text: &'t [u8], digits: &'t [u8]) -> (Piece<'t>, &'t [u8])
 }
 
 fn byte_of(high: u8, low: u8) -> Option<u8>
-    ensures { result ≡ (if is_ascii_hexdigit high && is_ascii_hexdigit low then Some (digit_value high * 16 + digit_value low) else None) }
+    ensures { result ≡ hexadecimal_byte high low }
 {
     let high = hex_digit(high)?;
     let low = hex_digit(low)?;
