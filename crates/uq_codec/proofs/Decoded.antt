@@ -1,19 +1,19 @@
 -- What the reader finds at the front of some bytes, and why nothing else is there.
 use Rattle.std.proofs.Common.{◌≡◌, ℕ, suc, ◌<◌, ◌≤◌, ◌+◌, true, false, ℤ, [], ◌∷◌, ◌++◌, length, None, Result, refl, sym, ap, subst, ◌∙◌, append_assoc, append-nil, length-append, arith}
-use Rattle.uq_value.specs.Data.{Bytes, Data, Datas, Pairs, Items, no_items, item, Members, no_members, member, null, boolean, whole, text, sequence, mapping, items_of, list_of, members_of, pairs_of, list, object}
+use Rattle.uq_value.specs.Data.{Bytes, Data, Datas, Pairs, Items, no_items, item, Members, no_members, member, null, bool, int, text, sequence, mapping, items_of, list_of, members_of, pairs_of, list, object}
 use Rattle.uq_value.specs.Size.{data_size, items_size, most_size}
 use Rattle.uq_value.specs.Depth.{data_depth, items_depth}
 use Rattle.uq_codec.specs.Varint.{IsVarint}
-use Rattle.uq_codec.specs.Stored.{IsWhole, IsName, Spells, SpellsItems, SpellsMembers}
+use Rattle.uq_codec.specs.Stored.{IsWhole, IsName, Encodes, EncodesItems, EncodesMembers}
 use Rattle.std.specs.Borrow.{Bor}
 use Rattle.uq_value.specs.declared.value.Value.{Value}
-use Rattle.uq_codec.specs.Kinds.{byte_of, ReadsKind}
-use Rattle.uq_codec.specs.Reading.{Front, NoFront, Fits, ReadsValue}
+use Rattle.uq_codec.specs.Internal.Kinds.{byte_of, ReadsKind}
+use Rattle.uq_codec.specs.Internal.Reading.{Front, NoFront, Fits, ReadsValue}
 use Rattle.uq_codec.specs.declared.kind.Kind.{Kind}
 use Rattle.uq_codec.specs.declared.error.CodecFault.{CodecFault}
 use Rattle.uq_codec.proofs.Determined.{kind, Begins, begins, varint_same, whole_long, spelling_same}
-use Rattle.uq_codec.proofs.Forms.{items_count, members_count, leb_size_grows}
-use Rattle.uq_codec.proofs.Values.{list_and_back}
+use Rattle.uq_value.specs.Laws.Levels.{list_of-items_of}
+use Rattle.uq_value.specs.Laws.Growth.{items_count, members_count, leb_size-mono}
 
 -- two fronts, each with what stands behind it
 pub two_fronts : {P Q : Bytes → Type 0} (bytes rest rest' : Bytes) (f : Front P bytes rest) (g : Front Q bytes rest') → f.word ++ rest ≡ g.word ++ rest'
@@ -21,7 +21,7 @@ two_fronts bytes rest rest' f g = sym f.parts ∙ g.parts
 
 -- ---- kinds
 
-pub front_kind : (k : ℕ) (bytes rest : Bytes) (d : Data) → Front (λ word. Spells word d) (k ∷ bytes) rest → kind d ≡ k
+pub front_kind : (k : ℕ) (bytes rest : Bytes) (d : Data) → Front (λ word. Encodes word d) (k ∷ bytes) rest → kind d ≡ k
 front_kind k bytes rest d f = by (begins d f.word f.is_word)
   where
     by : Begins f.word (kind d) → kind d ≡ k
@@ -29,23 +29,23 @@ front_kind k bytes rest d f = by (begins d f.word f.is_word)
 
 pub kind_small : (d : Data) → kind d ≤ 6
 kind_small null = omega arith
-kind_small (boolean false) = omega arith
-kind_small (boolean true) = omega arith
-kind_small (whole z) = omega arith
+kind_small (bool false) = omega arith
+kind_small (bool true) = omega arith
+kind_small (int z) = omega arith
 kind_small (text bs) = omega arith
 kind_small (sequence ds) = omega arith
 kind_small (mapping ms) = omega arith
 
-pub no_kind : (byte : ℕ) (bytes : Bytes) → 6 < byte → (d : Data) → NoFront (λ word. Spells word d) (byte ∷ bytes)
+pub no_kind : (byte : ℕ) (bytes : Bytes) → 6 < byte → (d : Data) → NoFront (λ word. Encodes word d) (byte ∷ bytes)
 no_kind byte bytes h d rest f = omega (arith, h, front_kind byte bytes rest d f, kind_small d)
 
-pub no_bytes : (d : Data) → NoFront (λ word. Spells word d) []
+pub no_bytes : (d : Data) → NoFront (λ word. Encodes word d) []
 no_bytes d rest f = by (begins d f.word f.is_word)
   where
     by : Begins f.word (kind d) → ⊥
     by b = let same : [] ≡ kind d ∷ (b.tail ++ rest) = f.parts ∙ ap (λ (w : Bytes). w ++ rest) b.parts in cc
 
-pub no_kind_next : (bytes : Bytes) → ReadsKind bytes None → (d : Data) → NoFront (λ word. Spells word d) bytes
+pub no_kind_next : (bytes : Bytes) → ReadsKind bytes None → (d : Data) → NoFront (λ word. Encodes word d) bytes
 no_kind_next [] none d = no_bytes d
 no_kind_next (byte ∷ bytes) none d = no_kind byte bytes none d
 
@@ -60,19 +60,19 @@ behind_kind k bytes word tail rest p q = let same : k ∷ bytes ≡ k ∷ (tail 
 
 pub record WholeFront (bytes rest : Bytes) (d : Data) : Type 0 where
   pub number : ℤ
-  pub is : d ≡ whole number
+  pub is : d ≡ int number
   pub front : Front (λ word. IsWhole word number) bytes rest
 
-pub as_whole : (bytes rest : Bytes) (d : Data) → Front (λ word. Spells word d) (3 ∷ bytes) rest → WholeFront bytes rest d
+pub as_whole : (bytes rest : Bytes) (d : Data) → Front (λ word. Encodes word d) (3 ∷ bytes) rest → WholeFront bytes rest d
 as_whole bytes rest null f = absurd (omega (arith, front_kind 3 bytes rest null f))
-as_whole bytes rest (boolean false) f = absurd (omega (arith, front_kind 3 bytes rest (boolean false) f))
-as_whole bytes rest (boolean true) f = absurd (omega (arith, front_kind 3 bytes rest (boolean true) f))
+as_whole bytes rest (bool false) f = absurd (omega (arith, front_kind 3 bytes rest (bool false) f))
+as_whole bytes rest (bool true) f = absurd (omega (arith, front_kind 3 bytes rest (bool true) f))
 as_whole bytes rest (text bs) f = absurd (omega (arith, front_kind 3 bytes rest (text bs) f))
 as_whole bytes rest (sequence ds) f = absurd (omega (arith, front_kind 3 bytes rest (sequence ds) f))
 as_whole bytes rest (mapping ms) f = absurd (omega (arith, front_kind 3 bytes rest (mapping ms) f))
-as_whole bytes rest (whole z) f = by f.is_word
+as_whole bytes rest (int z) f = by f.is_word
   where
-    by : Spells f.word (whole z) → WholeFront bytes rest (whole z)
+    by : Encodes f.word (int z) → WholeFront bytes rest (int z)
     by (number, parts, is) = record { number = z; is = refl; front = record { word = number; parts = behind_kind 3 bytes f.word number rest f.parts parts; is_word = is } }
 
 pub record TextFront (bytes rest : Bytes) (d : Data) : Type 0 where
@@ -80,16 +80,16 @@ pub record TextFront (bytes rest : Bytes) (d : Data) : Type 0 where
   pub is : d ≡ text text_bytes
   pub front : Front (λ word. IsName word text_bytes) bytes rest
 
-pub as_text : (bytes rest : Bytes) (d : Data) → Front (λ word. Spells word d) (4 ∷ bytes) rest → TextFront bytes rest d
+pub as_text : (bytes rest : Bytes) (d : Data) → Front (λ word. Encodes word d) (4 ∷ bytes) rest → TextFront bytes rest d
 as_text bytes rest null f = absurd (omega (arith, front_kind 4 bytes rest null f))
-as_text bytes rest (boolean false) f = absurd (omega (arith, front_kind 4 bytes rest (boolean false) f))
-as_text bytes rest (boolean true) f = absurd (omega (arith, front_kind 4 bytes rest (boolean true) f))
-as_text bytes rest (whole z) f = absurd (omega (arith, front_kind 4 bytes rest (whole z) f))
+as_text bytes rest (bool false) f = absurd (omega (arith, front_kind 4 bytes rest (bool false) f))
+as_text bytes rest (bool true) f = absurd (omega (arith, front_kind 4 bytes rest (bool true) f))
+as_text bytes rest (int z) f = absurd (omega (arith, front_kind 4 bytes rest (int z) f))
 as_text bytes rest (sequence ds) f = absurd (omega (arith, front_kind 4 bytes rest (sequence ds) f))
 as_text bytes rest (mapping ms) f = absurd (omega (arith, front_kind 4 bytes rest (mapping ms) f))
 as_text bytes rest (text bs) f = by f.is_word
   where
-    by : Spells f.word (text bs) → TextFront bytes rest (text bs)
+    by : Encodes f.word (text bs) → TextFront bytes rest (text bs)
     by (name, parts, is) = record { text_bytes = bs; is = refl; front = record { word = name; parts = behind_kind 4 bytes f.word name rest f.parts parts; is_word = is } }
 
 -- a count and what it counts
@@ -111,43 +111,43 @@ behind_count n m bytes after rest f c =
 pub record ListFront (bytes rest : Bytes) (d : Data) : Type 0 where
   pub items : Items
   pub is : d ≡ sequence items
-  pub counted : CountedFront (λ body. SpellsItems body items) (length (list_of items)) bytes rest
+  pub counted : CountedFront (λ body. EncodesItems body items) (length (list_of items)) bytes rest
 
-pub as_list : (bytes rest : Bytes) (d : Data) → Front (λ word. Spells word d) (5 ∷ bytes) rest → ListFront bytes rest d
+pub as_list : (bytes rest : Bytes) (d : Data) → Front (λ word. Encodes word d) (5 ∷ bytes) rest → ListFront bytes rest d
 as_list bytes rest null f = absurd (omega (arith, front_kind 5 bytes rest null f))
-as_list bytes rest (boolean false) f = absurd (omega (arith, front_kind 5 bytes rest (boolean false) f))
-as_list bytes rest (boolean true) f = absurd (omega (arith, front_kind 5 bytes rest (boolean true) f))
-as_list bytes rest (whole z) f = absurd (omega (arith, front_kind 5 bytes rest (whole z) f))
+as_list bytes rest (bool false) f = absurd (omega (arith, front_kind 5 bytes rest (bool false) f))
+as_list bytes rest (bool true) f = absurd (omega (arith, front_kind 5 bytes rest (bool true) f))
+as_list bytes rest (int z) f = absurd (omega (arith, front_kind 5 bytes rest (int z) f))
 as_list bytes rest (text bs) f = absurd (omega (arith, front_kind 5 bytes rest (text bs) f))
 as_list bytes rest (mapping ms) f = absurd (omega (arith, front_kind 5 bytes rest (mapping ms) f))
 as_list bytes rest (sequence ds) f = by f.is_word
   where
-    by : Spells f.word (sequence ds) → ListFront bytes rest (sequence ds)
+    by : Encodes f.word (sequence ds) → ListFront bytes rest (sequence ds)
     by (count, body, parts, is, are) =
-        record { items = ds; is = refl; counted = counted_front (λ w. SpellsItems w ds) (length (list_of ds)) 5 bytes f.word count body rest f.parts parts is are }
+        record { items = ds; is = refl; counted = counted_front (λ w. EncodesItems w ds) (length (list_of ds)) 5 bytes f.word count body rest f.parts parts is are }
 
 pub record ObjectFront (bytes rest : Bytes) (d : Data) : Type 0 where
   pub members : Members
   pub is : d ≡ mapping members
-  pub counted : CountedFront (λ body. SpellsMembers body members) (length (pairs_of members)) bytes rest
+  pub counted : CountedFront (λ body. EncodesMembers body members) (length (pairs_of members)) bytes rest
   pub distinct : Rattle.uq_value.specs.Data.IsDistinct (Rattle.uq_value.specs.Data.names_of (pairs_of members))
 
-pub as_object : (bytes rest : Bytes) (d : Data) → Front (λ word. Spells word d) (6 ∷ bytes) rest → ObjectFront bytes rest d
+pub as_object : (bytes rest : Bytes) (d : Data) → Front (λ word. Encodes word d) (6 ∷ bytes) rest → ObjectFront bytes rest d
 as_object bytes rest null f = absurd (omega (arith, front_kind 6 bytes rest null f))
-as_object bytes rest (boolean false) f = absurd (omega (arith, front_kind 6 bytes rest (boolean false) f))
-as_object bytes rest (boolean true) f = absurd (omega (arith, front_kind 6 bytes rest (boolean true) f))
-as_object bytes rest (whole z) f = absurd (omega (arith, front_kind 6 bytes rest (whole z) f))
+as_object bytes rest (bool false) f = absurd (omega (arith, front_kind 6 bytes rest (bool false) f))
+as_object bytes rest (bool true) f = absurd (omega (arith, front_kind 6 bytes rest (bool true) f))
+as_object bytes rest (int z) f = absurd (omega (arith, front_kind 6 bytes rest (int z) f))
 as_object bytes rest (text bs) f = absurd (omega (arith, front_kind 6 bytes rest (text bs) f))
 as_object bytes rest (sequence ds) f = absurd (omega (arith, front_kind 6 bytes rest (sequence ds) f))
 as_object bytes rest (mapping ms) f = by f.is_word
   where
-    by : Spells f.word (mapping ms) → ObjectFront bytes rest (mapping ms)
+    by : Encodes f.word (mapping ms) → ObjectFront bytes rest (mapping ms)
     by (count, body, parts, is, are, distinct) =
-        record { members = ms; is = refl; counted = counted_front (λ w. SpellsMembers w ms) (length (pairs_of ms)) 6 bytes f.word count body rest f.parts parts is are; distinct = distinct }
+        record { members = ms; is = refl; counted = counted_front (λ w. EncodesMembers w ms) (length (pairs_of ms)) 6 bytes f.word count body rest f.parts parts is are; distinct = distinct }
 
 -- ---- scalars
 
-pub single : (d : Data) (k : ℕ) (bytes rest : Bytes) → Spells (k ∷ []) d → bytes ≡ k ∷ rest → Front (λ word. Spells word d) bytes rest
+pub single : (d : Data) (k : ℕ) (bytes rest : Bytes) → Encodes (k ∷ []) d → bytes ≡ k ∷ rest → Front (λ word. Encodes word d) bytes rest
 single d k bytes rest is e = record { word = k ∷ []; parts = e; is_word = is }
 
 pub behind_byte : {P Q : Bytes → Type 0} (k : ℕ) (bytes rest : Bytes) → ((word : Bytes) → P word → Q (k ∷ word)) → Front P bytes rest → Front Q (k ∷ bytes) rest
@@ -155,7 +155,7 @@ behind_byte k bytes rest with_byte f = record { word = k ∷ f.word; parts = ap 
 
 -- ---- lists
 
-pub list_bytes : (n : ℕ) (ds : Items) (bytes after rest : Bytes) → n ≡ length (list_of ds) → Front (λ word. IsVarint word n) bytes after → Front (λ word. SpellsItems word ds) after rest → Front (λ word. Spells word (sequence ds)) (5 ∷ bytes) rest
+pub list_bytes : (n : ℕ) (ds : Items) (bytes after rest : Bytes) → n ≡ length (list_of ds) → Front (λ word. IsVarint word n) bytes after → Front (λ word. EncodesItems word ds) after rest → Front (λ word. Encodes word (sequence ds)) (5 ∷ bytes) rest
 list_bytes n ds bytes after rest e count body =
     record {
       word = 5 ∷ (count.word ++ body.word);
@@ -165,14 +165,14 @@ list_bytes n ds bytes after rest e count body =
 
 -- the first items of a list are read
 pub record ItemsSoFar (room n : ℕ) (found : Datas) (bytes rest : Bytes) : Type 0 where
-  pub front : Front (λ word. SpellsItems word (items_of found)) bytes rest
+  pub front : Front (λ word. EncodesItems word (items_of found)) bytes rest
   pub count : length found ≡ n
   pub shallow : data_depth (list found) ≤ room
 
 pub no_items_yet : (room : ℕ) (bytes : Bytes) → ItemsSoFar (suc room) 0 [] bytes bytes
 no_items_yet room bytes = record { front = record { word = []; parts = refl; is_word = refl }; count = refl; shallow = omega arith }
 
-spells_more : (ds : Datas) (d : Data) (a b : Bytes) → SpellsItems a (items_of ds) → Spells b d → SpellsItems (a ++ b) (items_of (ds ++ d ∷ []))
+spells_more : (ds : Datas) (d : Data) (a b : Bytes) → EncodesItems a (items_of ds) → Encodes b d → EncodesItems (a ++ b) (items_of (ds ++ d ∷ []))
 spells_more [] d a b p q = (b, [], ap (λ (w : Bytes). w ++ b) p ∙ sym (append-nil b), q, refl)
 spells_more (e ∷ ds) d a b (front, back, parts, is, are) q = (front, back ++ b, ap (λ (w : Bytes). w ++ b) parts ∙ append_assoc front back b, is, spells_more ds d back b are q)
 
@@ -180,7 +180,7 @@ deeper : (ds : Datas) (d : Data) (k : ℕ) → items_depth (items_of ds) ≤ k �
 deeper [] d k p q = omega (arith, q)
 deeper (e ∷ ds) d k p q = let others = deeper ds d k (omega (arith, p)) q in omega (arith, others, p)
 
-pub one_item_more : (room n : ℕ) (found : Datas) (d : Data) (bytes rest behind : Bytes) → ItemsSoFar (suc room) n found bytes rest → Front (λ word. Spells word d) rest behind → data_depth d ≤ room → ItemsSoFar (suc room) (suc n) (found ++ d ∷ []) bytes behind
+pub one_item_more : (room n : ℕ) (found : Datas) (d : Data) (bytes rest behind : Bytes) → ItemsSoFar (suc room) n found bytes rest → Front (λ word. Encodes word d) rest behind → data_depth d ≤ room → ItemsSoFar (suc room) (suc n) (found ++ d ∷ []) bytes behind
 one_item_more room n found d bytes rest behind so_far f h =
     record {
       front = record {
@@ -196,11 +196,11 @@ one_item_more room n found d bytes rest behind so_far f h =
 pub record NextItem (found : Datas) (ds : Items) (rest : Bytes) : Type 0 where
   pub one : Data
   pub behind : Bytes
-  pub here : Front (λ word. Spells word one) rest behind
+  pub here : Front (λ word. Encodes word one) rest behind
   pub shallow : data_depth one ≤ items_depth ds
   pub small : items_size (items_of found) + data_size one ≤ items_size ds
 
-next_item : (found : Datas) (ds : Items) (a b rest rest' : Bytes) → SpellsItems a (items_of found) → SpellsItems b ds → a ++ rest ≡ b ++ rest' → length found < length (list_of ds) → NextItem found ds rest
+next_item : (found : Datas) (ds : Items) (a b rest rest' : Bytes) → EncodesItems a (items_of found) → EncodesItems b ds → a ++ rest ≡ b ++ rest' → length found < length (list_of ds) → NextItem found ds rest
 next_item found no_items a b rest rest' p q e h = absurd (omega (arith, h))
 next_item [] (item d ds) a b rest rest' p (front, back, parts, is, are) e h =
     record {
@@ -217,13 +217,13 @@ next_item (c ∷ cs) (item d ds) a b rest rest' (front, back, parts, is, are) (f
     let size : data_size c ≡ data_size d = ap data_size same.value in
     record { one = more.one; behind = more.behind; here = more.here; shallow = omega (arith, more.shallow); small = omega (arith, more.small, size) }
 
-pub the_next_item : (room n : ℕ) (found : Datas) (ds : Items) (bytes rest rest' : Bytes) → ItemsSoFar room n found bytes rest → Front (λ word. SpellsItems word ds) bytes rest' → n < length (list_of ds) → NextItem found ds rest
+pub the_next_item : (room n : ℕ) (found : Datas) (ds : Items) (bytes rest rest' : Bytes) → ItemsSoFar room n found bytes rest → Front (λ word. EncodesItems word ds) bytes rest' → n < length (list_of ds) → NextItem found ds rest
 the_next_item room n found ds bytes rest rest' so_far f h =
     next_item found ds so_far.front.word f.word rest rest' so_far.front.is_word f.is_word (two_fronts bytes rest rest' so_far.front f) (omega (arith, h, so_far.count))
 
 -- where no item is, there are not so many
-pub no_item : (room n count : ℕ) (found : Datas) (bytes rest : Bytes) → ItemsSoFar (suc room) n found bytes rest → n < count → ((d : Data) → Fits room d → NoFront (λ word. Spells word d) rest)
-    → (ds : Items) → length (list_of ds) ≡ count → Fits (suc room) (sequence ds) → NoFront (λ word. SpellsItems word ds) bytes
+pub no_item : (room n count : ℕ) (found : Datas) (bytes rest : Bytes) → ItemsSoFar (suc room) n found bytes rest → n < count → ((d : Data) → Fits room d → NoFront (λ word. Encodes word d) rest)
+    → (ds : Items) → length (list_of ds) ≡ count → Fits (suc room) (sequence ds) → NoFront (λ word. EncodesItems word ds) bytes
 no_item room n count found bytes rest so_far h none ds long fits rest' f =
     let next = the_next_item (suc room) n found ds bytes rest rest' so_far f (omega (arith, h, long)) in
     none next.one (record { shallow = omega (arith, next.shallow, fits.shallow); small = omega (arith, next.small, fits.small) }) next.behind next.here
@@ -233,16 +233,16 @@ items_more [] d = omega arith
 items_more (e ∷ ds) d = let others = items_more ds d in omega (arith, others)
 
 counted : (ds : Datas) → length (list_of (items_of ds)) ≡ length ds
-counted ds = ap length (list_and_back ds)
+counted ds = ap length (list_of-items_of ds)
 
 -- where an item makes a list too large, there are not so many
-pub too_many : (room n count : ℕ) (found : Datas) (d : Data) (bytes rest behind : Bytes) → ItemsSoFar (suc room) n found bytes rest → n < count → Front (λ word. Spells word d) rest behind → most_size < data_size (list (found ++ d ∷ []))
-    → (ds : Items) → length (list_of ds) ≡ count → Fits (suc room) (sequence ds) → NoFront (λ word. SpellsItems word ds) bytes
+pub too_many : (room n count : ℕ) (found : Datas) (d : Data) (bytes rest behind : Bytes) → ItemsSoFar (suc room) n found bytes rest → n < count → Front (λ word. Encodes word d) rest behind → most_size < data_size (list (found ++ d ∷ []))
+    → (ds : Items) → length (list_of ds) ≡ count → Fits (suc room) (sequence ds) → NoFront (λ word. EncodesItems word ds) bytes
 too_many room n count found d bytes rest behind so_far h f large ds long fits rest' g =
     let next = the_next_item (suc room) n found ds bytes rest rest' so_far g (omega (arith, h, long)) in
     let same = spelling_same d next.one f.word next.here.word behind next.behind f.is_word next.here.is_word (two_fronts rest behind next.behind f next.here) in
     let size : data_size d ≡ data_size next.one = ap data_size same.value in
-    let lebs = leb_size_grows (length (list_of (items_of (found ++ d ∷ [])))) (length (list_of ds)) (omega (arith, counted (found ++ d ∷ []), length-append found (d ∷ []), so_far.count, h, long)) in
+    let lebs = leb_size-mono (length (list_of (items_of (found ++ d ∷ [])))) (length (list_of ds)) (omega (arith, counted (found ++ d ∷ []), length-append found (d ∷ []), so_far.count, h, long)) in
     omega (arith, large, items_more found d, size, next.small, lebs, fits.small)
 
 -- a number of items that is no length is none of a list that fits
@@ -254,11 +254,11 @@ members_few room ms fits = omega (arith, members_count ms, fits.small)
 
 -- ---- numbers
 
-pub too_short : (bytes : Bytes) (d : Data) (rest : Bytes) → Front (λ word. Spells word d) (3 ∷ bytes) rest → length bytes < 8 → ⊥
+pub too_short : (bytes : Bytes) (d : Data) (rest : Bytes) → Front (λ word. Encodes word d) (3 ∷ bytes) rest → length bytes < 8 → ⊥
 too_short bytes d rest f h =
     let w = as_whole bytes rest d f in
     let long : length bytes ≡ length (w.front.word ++ rest) = ap length w.front.parts in
     omega (arith, h, long, length-append w.front.word rest, whole_long w.front.word w.number w.front.is_word)
 
-pub whole_found : (room : ℕ) (bytes field rest : Bytes) (z : ℤ) → bytes ≡ field ++ rest → IsWhole field z → Front (λ word. Spells word (whole z)) (3 ∷ bytes) rest × (0 ≤ room)
+pub whole_found : (room : ℕ) (bytes field rest : Bytes) (z : ℤ) → bytes ≡ field ++ rest → IsWhole field z → Front (λ word. Encodes word (int z)) (3 ∷ bytes) rest × (0 ≤ room)
 whole_found room bytes field rest z e is = (record { word = 3 ∷ field; parts = ap (λ (w : Bytes). 3 ∷ w) e; is_word = (field, refl, is) }, omega arith)

@@ -2,9 +2,9 @@
 use Rattle.std.proofs.Common.{◌≡◌, ℕ, ◌<◌, ◌-◌, ◌^◌, true, false, ℤ, pos, negsuc, [], ◌∷◌, ◌++◌, length, refl, sym, ap, subst, ◌∙◌, append_assoc, arith}
 use Rattle.std.proofs.lemmas.Nat.{from_be_bytes-to_be_bytes_8}
 use Rattle.std.specs.Int.{w64, to_be_bytes, from_be_bytes}
-use Rattle.uq_value.specs.Data.{Bytes, Data, null, boolean, whole, text, sequence, mapping, Items, no_items, item, Members, no_members, member, list_of, pairs_of}
+use Rattle.uq_value.specs.Data.{Bytes, Data, null, bool, int, text, sequence, mapping, Items, no_items, item, Members, no_members, member, list_of, pairs_of}
 use Rattle.uq_codec.specs.Varint.{IsVarint}
-use Rattle.uq_codec.specs.Stored.{IsWhole, IsName, Spells, SpellsItems, SpellsMembers}
+use Rattle.uq_codec.specs.Stored.{IsWhole, IsName, Encodes, EncodesItems, EncodesMembers}
 
 -- two spellings, each with more behind it, are of the same thing
 pub record Same {A : Type 0} (c d : A) (a b x y : Bytes) : Type 0 where
@@ -86,9 +86,9 @@ whole_same a b x y m n p q e =
 -- the byte with which a spelling begins
 abbrev pub kind : Data → ℕ
 kind null = 0
-kind (boolean false) = 1
-kind (boolean true) = 2
-kind (whole z) = 3
+kind (bool false) = 1
+kind (bool true) = 2
+kind (int z) = 3
 kind (text bs) = 4
 kind (sequence ds) = 5
 kind (mapping ms) = 6
@@ -97,16 +97,16 @@ pub record Begins (a : Bytes) (k : ℕ) : Type 0 where
   pub tail : Bytes
   pub parts : a ≡ k ∷ tail
 
-pub begins : (d : Data) (a : Bytes) → Spells a d → Begins a (kind d)
+pub begins : (d : Data) (a : Bytes) → Encodes a d → Begins a (kind d)
 begins null a p = record { tail = []; parts = p }
-begins (boolean false) a p = record { tail = []; parts = p }
-begins (boolean true) a p = record { tail = []; parts = p }
-begins (whole z) a (number, parts, is) = record { tail = number; parts = parts }
+begins (bool false) a p = record { tail = []; parts = p }
+begins (bool true) a p = record { tail = []; parts = p }
+begins (int z) a (number, parts, is) = record { tail = number; parts = parts }
 begins (text bs) a (name, parts, is) = record { tail = name; parts = parts }
 begins (sequence ds) a (count, body, parts, is, are) = record { tail = count ++ body; parts = parts }
 begins (mapping ms) a (count, body, parts, is, are, distinct) = record { tail = count ++ body; parts = parts }
 
-same_kind : (c d : Data) (a b x y : Bytes) → Spells a c → Spells b d → a ++ x ≡ b ++ y → kind c ≡ kind d
+same_kind : (c d : Data) (a b x y : Bytes) → Encodes a c → Encodes b d → a ++ x ≡ b ++ y → kind c ≡ kind d
 same_kind c d a b x y p q e = by (begins c a p) (begins d b q)
   where
     by : Begins a (kind c) → Begins b (kind d) → kind c ≡ kind d
@@ -137,48 +137,48 @@ both a b a' b' p q = ap (λ (w : Bytes). w ++ b) p ∙ ap (λ (w : Bytes). a' ++
 -- ---- values
 
 mutual
-  pub spelling_same : (c d : Data) (a b x y : Bytes) → Spells a c → Spells b d → a ++ x ≡ b ++ y → Same c d a b x y
+  pub spelling_same : (c d : Data) (a b x y : Bytes) → Encodes a c → Encodes b d → a ++ x ≡ b ++ y → Same c d a b x y
   spelling_same null null a b x y p q e = with_kind 0 null null a b [] [] x y p q (record { value = refl; word = refl; rest = behind 0 a b [] [] x y p q e })
-  spelling_same null (boolean false) a b x y p q e = absurd (omega (arith, same_kind null (boolean false) a b x y p q e))
-  spelling_same null (boolean true) a b x y p q e = absurd (omega (arith, same_kind null (boolean true) a b x y p q e))
-  spelling_same null (whole z) a b x y p q e = absurd (omega (arith, same_kind null (whole z) a b x y p q e))
+  spelling_same null (bool false) a b x y p q e = absurd (omega (arith, same_kind null (bool false) a b x y p q e))
+  spelling_same null (bool true) a b x y p q e = absurd (omega (arith, same_kind null (bool true) a b x y p q e))
+  spelling_same null (int z) a b x y p q e = absurd (omega (arith, same_kind null (int z) a b x y p q e))
   spelling_same null (text bs) a b x y p q e = absurd (omega (arith, same_kind null (text bs) a b x y p q e))
   spelling_same null (sequence ds) a b x y p q e = absurd (omega (arith, same_kind null (sequence ds) a b x y p q e))
   spelling_same null (mapping ms) a b x y p q e = absurd (omega (arith, same_kind null (mapping ms) a b x y p q e))
-  spelling_same (boolean false) null a b x y p q e = absurd (omega (arith, same_kind (boolean false) null a b x y p q e))
-  spelling_same (boolean false) (boolean false) a b x y p q e = with_kind 1 (boolean false) (boolean false) a b [] [] x y p q (record { value = refl; word = refl; rest = behind 1 a b [] [] x y p q e })
-  spelling_same (boolean false) (boolean true) a b x y p q e = absurd (omega (arith, same_kind (boolean false) (boolean true) a b x y p q e))
-  spelling_same (boolean false) (whole z) a b x y p q e = absurd (omega (arith, same_kind (boolean false) (whole z) a b x y p q e))
-  spelling_same (boolean false) (text bs) a b x y p q e = absurd (omega (arith, same_kind (boolean false) (text bs) a b x y p q e))
-  spelling_same (boolean false) (sequence ds) a b x y p q e = absurd (omega (arith, same_kind (boolean false) (sequence ds) a b x y p q e))
-  spelling_same (boolean false) (mapping ms) a b x y p q e = absurd (omega (arith, same_kind (boolean false) (mapping ms) a b x y p q e))
-  spelling_same (boolean true) null a b x y p q e = absurd (omega (arith, same_kind (boolean true) null a b x y p q e))
-  spelling_same (boolean true) (boolean false) a b x y p q e = absurd (omega (arith, same_kind (boolean true) (boolean false) a b x y p q e))
-  spelling_same (boolean true) (boolean true) a b x y p q e = with_kind 2 (boolean true) (boolean true) a b [] [] x y p q (record { value = refl; word = refl; rest = behind 2 a b [] [] x y p q e })
-  spelling_same (boolean true) (whole z) a b x y p q e = absurd (omega (arith, same_kind (boolean true) (whole z) a b x y p q e))
-  spelling_same (boolean true) (text bs) a b x y p q e = absurd (omega (arith, same_kind (boolean true) (text bs) a b x y p q e))
-  spelling_same (boolean true) (sequence ds) a b x y p q e = absurd (omega (arith, same_kind (boolean true) (sequence ds) a b x y p q e))
-  spelling_same (boolean true) (mapping ms) a b x y p q e = absurd (omega (arith, same_kind (boolean true) (mapping ms) a b x y p q e))
-  spelling_same (whole z) null a b x y p q e = absurd (omega (arith, same_kind (whole z) null a b x y p q e))
-  spelling_same (whole z) (boolean false) a b x y p q e = absurd (omega (arith, same_kind (whole z) (boolean false) a b x y p q e))
-  spelling_same (whole z) (boolean true) a b x y p q e = absurd (omega (arith, same_kind (whole z) (boolean true) a b x y p q e))
-  spelling_same (whole y') (whole z) a b x y (word, parts, is) (word', parts', is') e =
-      with_kind 3 (whole y') (whole z) a b word word' x y parts parts' (mapped whole y' z word word' x y (whole_same word word' x y y' z is is' (behind 3 a b word word' x y parts parts' e)))
-  spelling_same (whole z) (text bs) a b x y p q e = absurd (omega (arith, same_kind (whole z) (text bs) a b x y p q e))
-  spelling_same (whole z) (sequence ds) a b x y p q e = absurd (omega (arith, same_kind (whole z) (sequence ds) a b x y p q e))
-  spelling_same (whole z) (mapping ms) a b x y p q e = absurd (omega (arith, same_kind (whole z) (mapping ms) a b x y p q e))
+  spelling_same (bool false) null a b x y p q e = absurd (omega (arith, same_kind (bool false) null a b x y p q e))
+  spelling_same (bool false) (bool false) a b x y p q e = with_kind 1 (bool false) (bool false) a b [] [] x y p q (record { value = refl; word = refl; rest = behind 1 a b [] [] x y p q e })
+  spelling_same (bool false) (bool true) a b x y p q e = absurd (omega (arith, same_kind (bool false) (bool true) a b x y p q e))
+  spelling_same (bool false) (int z) a b x y p q e = absurd (omega (arith, same_kind (bool false) (int z) a b x y p q e))
+  spelling_same (bool false) (text bs) a b x y p q e = absurd (omega (arith, same_kind (bool false) (text bs) a b x y p q e))
+  spelling_same (bool false) (sequence ds) a b x y p q e = absurd (omega (arith, same_kind (bool false) (sequence ds) a b x y p q e))
+  spelling_same (bool false) (mapping ms) a b x y p q e = absurd (omega (arith, same_kind (bool false) (mapping ms) a b x y p q e))
+  spelling_same (bool true) null a b x y p q e = absurd (omega (arith, same_kind (bool true) null a b x y p q e))
+  spelling_same (bool true) (bool false) a b x y p q e = absurd (omega (arith, same_kind (bool true) (bool false) a b x y p q e))
+  spelling_same (bool true) (bool true) a b x y p q e = with_kind 2 (bool true) (bool true) a b [] [] x y p q (record { value = refl; word = refl; rest = behind 2 a b [] [] x y p q e })
+  spelling_same (bool true) (int z) a b x y p q e = absurd (omega (arith, same_kind (bool true) (int z) a b x y p q e))
+  spelling_same (bool true) (text bs) a b x y p q e = absurd (omega (arith, same_kind (bool true) (text bs) a b x y p q e))
+  spelling_same (bool true) (sequence ds) a b x y p q e = absurd (omega (arith, same_kind (bool true) (sequence ds) a b x y p q e))
+  spelling_same (bool true) (mapping ms) a b x y p q e = absurd (omega (arith, same_kind (bool true) (mapping ms) a b x y p q e))
+  spelling_same (int z) null a b x y p q e = absurd (omega (arith, same_kind (int z) null a b x y p q e))
+  spelling_same (int z) (bool false) a b x y p q e = absurd (omega (arith, same_kind (int z) (bool false) a b x y p q e))
+  spelling_same (int z) (bool true) a b x y p q e = absurd (omega (arith, same_kind (int z) (bool true) a b x y p q e))
+  spelling_same (int y') (int z) a b x y (word, parts, is) (word', parts', is') e =
+      with_kind 3 (int y') (int z) a b word word' x y parts parts' (mapped int y' z word word' x y (whole_same word word' x y y' z is is' (behind 3 a b word word' x y parts parts' e)))
+  spelling_same (int z) (text bs) a b x y p q e = absurd (omega (arith, same_kind (int z) (text bs) a b x y p q e))
+  spelling_same (int z) (sequence ds) a b x y p q e = absurd (omega (arith, same_kind (int z) (sequence ds) a b x y p q e))
+  spelling_same (int z) (mapping ms) a b x y p q e = absurd (omega (arith, same_kind (int z) (mapping ms) a b x y p q e))
   spelling_same (text bs) null a b x y p q e = absurd (omega (arith, same_kind (text bs) null a b x y p q e))
-  spelling_same (text bs) (boolean false) a b x y p q e = absurd (omega (arith, same_kind (text bs) (boolean false) a b x y p q e))
-  spelling_same (text bs) (boolean true) a b x y p q e = absurd (omega (arith, same_kind (text bs) (boolean true) a b x y p q e))
-  spelling_same (text bs) (whole z) a b x y p q e = absurd (omega (arith, same_kind (text bs) (whole z) a b x y p q e))
+  spelling_same (text bs) (bool false) a b x y p q e = absurd (omega (arith, same_kind (text bs) (bool false) a b x y p q e))
+  spelling_same (text bs) (bool true) a b x y p q e = absurd (omega (arith, same_kind (text bs) (bool true) a b x y p q e))
+  spelling_same (text bs) (int z) a b x y p q e = absurd (omega (arith, same_kind (text bs) (int z) a b x y p q e))
   spelling_same (text bs) (text cs) a b x y (word, parts, is) (word', parts', is') e =
       with_kind 4 (text bs) (text cs) a b word word' x y parts parts' (mapped text bs cs word word' x y (name_same word word' x y bs cs is is' (behind 4 a b word word' x y parts parts' e)))
   spelling_same (text bs) (sequence ds) a b x y p q e = absurd (omega (arith, same_kind (text bs) (sequence ds) a b x y p q e))
   spelling_same (text bs) (mapping ms) a b x y p q e = absurd (omega (arith, same_kind (text bs) (mapping ms) a b x y p q e))
   spelling_same (sequence ds) null a b x y p q e = absurd (omega (arith, same_kind (sequence ds) null a b x y p q e))
-  spelling_same (sequence ds) (boolean false) a b x y p q e = absurd (omega (arith, same_kind (sequence ds) (boolean false) a b x y p q e))
-  spelling_same (sequence ds) (boolean true) a b x y p q e = absurd (omega (arith, same_kind (sequence ds) (boolean true) a b x y p q e))
-  spelling_same (sequence ds) (whole z) a b x y p q e = absurd (omega (arith, same_kind (sequence ds) (whole z) a b x y p q e))
+  spelling_same (sequence ds) (bool false) a b x y p q e = absurd (omega (arith, same_kind (sequence ds) (bool false) a b x y p q e))
+  spelling_same (sequence ds) (bool true) a b x y p q e = absurd (omega (arith, same_kind (sequence ds) (bool true) a b x y p q e))
+  spelling_same (sequence ds) (int z) a b x y p q e = absurd (omega (arith, same_kind (sequence ds) (int z) a b x y p q e))
   spelling_same (sequence ds) (text bs) a b x y p q e = absurd (omega (arith, same_kind (sequence ds) (text bs) a b x y p q e))
   spelling_same (sequence cs) (sequence ds) a b x y (count, body, parts, is, are) (count', body', parts', is', are') e =
       let tails = in_a_row count body count' body' x y (behind 5 a b (count ++ body) (count' ++ body') x y parts parts' e) in
@@ -187,9 +187,9 @@ mutual
       with_kind 5 (sequence cs) (sequence ds) a b (count ++ body) (count' ++ body') x y parts parts' (record { value = ap sequence bodies.value; word = both count body count' body' counts.word bodies.word; rest = bodies.rest })
   spelling_same (sequence ds) (mapping ms) a b x y p q e = absurd (omega (arith, same_kind (sequence ds) (mapping ms) a b x y p q e))
   spelling_same (mapping ms) null a b x y p q e = absurd (omega (arith, same_kind (mapping ms) null a b x y p q e))
-  spelling_same (mapping ms) (boolean false) a b x y p q e = absurd (omega (arith, same_kind (mapping ms) (boolean false) a b x y p q e))
-  spelling_same (mapping ms) (boolean true) a b x y p q e = absurd (omega (arith, same_kind (mapping ms) (boolean true) a b x y p q e))
-  spelling_same (mapping ms) (whole z) a b x y p q e = absurd (omega (arith, same_kind (mapping ms) (whole z) a b x y p q e))
+  spelling_same (mapping ms) (bool false) a b x y p q e = absurd (omega (arith, same_kind (mapping ms) (bool false) a b x y p q e))
+  spelling_same (mapping ms) (bool true) a b x y p q e = absurd (omega (arith, same_kind (mapping ms) (bool true) a b x y p q e))
+  spelling_same (mapping ms) (int z) a b x y p q e = absurd (omega (arith, same_kind (mapping ms) (int z) a b x y p q e))
   spelling_same (mapping ms) (text bs) a b x y p q e = absurd (omega (arith, same_kind (mapping ms) (text bs) a b x y p q e))
   spelling_same (mapping ms) (sequence ds) a b x y p q e = absurd (omega (arith, same_kind (mapping ms) (sequence ds) a b x y p q e))
   spelling_same (mapping ms) (mapping ns) a b x y (count, body, parts, is, are, distinct) (count', body', parts', is', are', distinct') e =
@@ -198,7 +198,7 @@ mutual
       let bodies = members_same ms ns body body' x y counts.value are are' counts.rest in
       with_kind 6 (mapping ms) (mapping ns) a b (count ++ body) (count' ++ body') x y parts parts' (record { value = ap mapping bodies.value; word = both count body count' body' counts.word bodies.word; rest = bodies.rest })
 
-  pub items_same : (cs ds : Items) (a b x y : Bytes) → length (list_of cs) ≡ length (list_of ds) → SpellsItems a cs → SpellsItems b ds → a ++ x ≡ b ++ y → Same cs ds a b x y
+  pub items_same : (cs ds : Items) (a b x y : Bytes) → length (list_of cs) ≡ length (list_of ds) → EncodesItems a cs → EncodesItems b ds → a ++ x ≡ b ++ y → Same cs ds a b x y
   items_same no_items no_items a b x y n p q e = record { value = refl; word = p ∙ sym q; rest = ap (λ (w : Bytes). w ++ x) (sym p) ∙ e ∙ ap (λ (w : Bytes). w ++ y) q }
   items_same no_items (item d ds) a b x y n p q e = absurd (omega (arith, n))
   items_same (item c cs) no_items a b x y n p q e = absurd (omega (arith, n))
@@ -212,7 +212,7 @@ mutual
         rest = others.rest;
       }
 
-  pub members_same : (ms ns : Members) (a b x y : Bytes) → length (pairs_of ms) ≡ length (pairs_of ns) → SpellsMembers a ms → SpellsMembers b ns → a ++ x ≡ b ++ y → Same ms ns a b x y
+  pub members_same : (ms ns : Members) (a b x y : Bytes) → length (pairs_of ms) ≡ length (pairs_of ns) → EncodesMembers a ms → EncodesMembers b ns → a ++ x ≡ b ++ y → Same ms ns a b x y
   members_same no_members no_members a b x y n p q e = record { value = refl; word = p ∙ sym q; rest = ap (λ (w : Bytes). w ++ x) (sym p) ∙ e ∙ ap (λ (w : Bytes). w ++ y) q }
   members_same no_members (member m d ns) a b x y n p q e = absurd (omega (arith, n))
   members_same (member m c ms) no_members a b x y n p q e = absurd (omega (arith, n))

@@ -2,10 +2,11 @@
 use Rattle.std.proofs.Common.{◌≡◌, ℕ, zero, suc, ◌<◌, ◌≤◌, ◌+◌, ◌/◌, ◌^◌, Bool, true, false, cond, ltb, ℤ, pos, negsuc, [], ◌∷◌, ◌++◌, length, length-append, refl, sym, ap, subst, ◌∙◌, arith}
 use Rattle.std.proofs.lemmas.Bool.{ltb-true, ltb-false}
 use Rattle.std.proofs.Math.Nat.{pow-suc}
-use Rattle.uq_value.specs.Data.{Bytes, Data, null, boolean, whole, text, sequence, mapping, Items, no_items, item, Members, no_members, member, list_of, pairs_of}
+use Rattle.uq_value.specs.Data.{Bytes, Data, null, bool, int, text, sequence, mapping, Items, no_items, item, Members, no_members, member, list_of, pairs_of}
 use Rattle.uq_value.specs.Size.{leb_within, leb_size, name_size, data_size, items_size, members_size, most_size}
 use Rattle.uq_codec.specs.Varint.{IsVarint}
-use Rattle.uq_codec.specs.Stored.{IsWhole, IsName, Spells, SpellsItems, SpellsMembers}
+use Rattle.uq_codec.specs.Stored.{IsWhole, IsName, Encodes, EncodesItems, EncodesMembers}
+use Rattle.uq_value.specs.Laws.Growth.{items_count, members_count}
 use Rattle.uq_codec.proofs.Determined.{whole_long, both}
 
 -- ---- one form
@@ -33,22 +34,22 @@ behind_kind : (k : ℕ) (a b tail tail' : Bytes) → a ≡ k ∷ tail → b ≡ 
 behind_kind k a b tail tail' p q e = p ∙ ap (λ (w : Bytes). k ∷ w) e ∙ sym q
 
 mutual
-  pub spelling_one : (d : Data) (a b : Bytes) → Spells a d → Spells b d → a ≡ b
+  pub spelling_one : (d : Data) (a b : Bytes) → Encodes a d → Encodes b d → a ≡ b
   spelling_one null a b p q = p ∙ sym q
-  spelling_one (boolean c) a b p q = p ∙ sym q
-  spelling_one (whole z) a b (word, parts, is) (word', parts', is') = behind_kind 3 a b word word' parts parts' (number_one word word' z is is')
+  spelling_one (bool c) a b p q = p ∙ sym q
+  spelling_one (int z) a b (word, parts, is) (word', parts', is') = behind_kind 3 a b word word' parts parts' (number_one word word' z is is')
   spelling_one (text bs) a b (word, parts, is) (word', parts', is') = behind_kind 4 a b word word' parts parts' (name_one word word' bs is is')
   spelling_one (sequence ds) a b (count, body, parts, is, are) (count', body', parts', is', are') =
       behind_kind 5 a b (count ++ body) (count' ++ body') parts parts' (both count body count' body' (varint_one count count' (length (list_of ds)) is is') (items_one ds body body' are are'))
   spelling_one (mapping ms) a b (count, body, parts, is, are, distinct) (count', body', parts', is', are', distinct') =
       behind_kind 6 a b (count ++ body) (count' ++ body') parts parts' (both count body count' body' (varint_one count count' (length (pairs_of ms)) is is') (members_one ms body body' are are'))
 
-  items_one : (ds : Items) (a b : Bytes) → SpellsItems a ds → SpellsItems b ds → a ≡ b
+  items_one : (ds : Items) (a b : Bytes) → EncodesItems a ds → EncodesItems b ds → a ≡ b
   items_one no_items a b p q = p ∙ sym q
   items_one (item d ds) a b (front, back, parts, is, are) (front', back', parts', is', are') =
       parts ∙ both front back front' back' (spelling_one d front front' is is') (items_one ds back back' are are') ∙ sym parts'
 
-  members_one : (ms : Members) (a b : Bytes) → SpellsMembers a ms → SpellsMembers b ms → a ≡ b
+  members_one : (ms : Members) (a b : Bytes) → EncodesMembers a ms → EncodesMembers b ms → a ≡ b
   members_one no_members a b p q = p ∙ sym q
   members_one (member n d ms) a b (label, front, back, parts, named, is, are) (label', front', back', parts', named', is', are') =
       parts ∙ both label (front ++ back) label' (front' ++ back') (name_one label label' n named named') (both front back front' back' (spelling_one d front front' is is') (members_one ms back back' are are')) ∙ sym parts'
@@ -86,30 +87,14 @@ name_long a bs h p =
     let parts : length a ≡ length (p.count ++ bs) = ap length p.parts in
     omega (arith, count, parts, length-append p.count bs)
 
-some_byte : (d : Data) → 1 ≤ data_size d
-some_byte null = omega arith
-some_byte (boolean b) = omega arith
-some_byte (whole z) = omega arith
-some_byte (text bs) = omega arith
-some_byte (sequence ds) = omega arith
-some_byte (mapping ms) = omega arith
-
-pub items_count : (ds : Items) → length (list_of ds) ≤ items_size ds
-items_count no_items = omega arith
-items_count (item d ds) = let one = some_byte d in let others = items_count ds in omega (arith, one, others)
-
-pub members_count : (ms : Members) → length (pairs_of ms) ≤ members_size ms
-members_count no_members = omega arith
-members_count (member n d ms) = let one = some_byte d in let others = members_count ms in omega (arith, one, others)
-
 kind_long : (k : ℕ) (a tail : Bytes) → a ≡ k ∷ tail → length a ≡ 1 + length tail
 kind_long k a tail p = let long : length a ≡ length (k ∷ tail) = ap length p in omega (arith, long)
 
 mutual
-  pub spelling_long : (d : Data) (a : Bytes) → data_size d ≤ most_size → Spells a d → length a ≡ data_size d
+  pub spelling_long : (d : Data) (a : Bytes) → data_size d ≤ most_size → Encodes a d → length a ≡ data_size d
   spelling_long null a h p = ap length p
-  spelling_long (boolean b) a h p = ap length p
-  spelling_long (whole z) a h (word, parts, is) = let eight = whole_long word z is in omega (arith, kind_long 3 a word parts, eight)
+  spelling_long (bool b) a h p = ap length p
+  spelling_long (int z) a h (word, parts, is) = let eight = whole_long word z is in omega (arith, kind_long 3 a word parts, eight)
   spelling_long (text bs) a h (word, parts, is) = let long = name_long word bs (omega (arith, h)) is in omega (arith, kind_long 4 a word parts, long)
   spelling_long (sequence ds) a h (count, body, parts, is, are) =
       let counted = count_long count (length (list_of ds)) (omega (arith, h, items_count ds)) is in
@@ -120,7 +105,7 @@ mutual
       let within = members_long ms body (omega (arith, h)) are in
       omega (arith, kind_long 6 a (count ++ body) parts, length-append count body, counted, within)
 
-  items_long : (ds : Items) (a : Bytes) → items_size ds ≤ most_size → SpellsItems a ds → length a ≡ items_size ds
+  items_long : (ds : Items) (a : Bytes) → items_size ds ≤ most_size → EncodesItems a ds → length a ≡ items_size ds
   items_long no_items a h p = ap length p
   items_long (item d ds) a h (front, back, parts, is, are) =
       let one = spelling_long d front (omega (arith, h)) is in
@@ -128,7 +113,7 @@ mutual
       let whole : length a ≡ length (front ++ back) = ap length parts in
       omega (arith, whole, length-append front back, one, others)
 
-  members_long : (ms : Members) (a : Bytes) → members_size ms ≤ most_size → SpellsMembers a ms → length a ≡ members_size ms
+  members_long : (ms : Members) (a : Bytes) → members_size ms ≤ most_size → EncodesMembers a ms → length a ≡ members_size ms
   members_long no_members a h p = ap length p
   members_long (member n d ms) a h (label, front, back, parts, named, is, are) =
       let name = name_long label n (omega (arith, h)) named in
@@ -136,19 +121,3 @@ mutual
       let others = members_long ms back (omega (arith, h)) are in
       let whole : length a ≡ length (label ++ (front ++ back)) = ap length parts in
       omega (arith, whole, length-append label (front ++ back), length-append front back, name, one, others)
-
--- ---- longer counts
-
-leb_grows : (k n m : ℕ) → n ≤ m → leb_within k n ≤ leb_within k m
-leb_grows zero n m h = omega arith
-leb_grows (suc k) n m h = by (ltb n 128) (ltb m 128) refl refl (leb_grows k (n / 128) (m / 128) (omega (arith, h)))
-  where
-    by : (a b : Bool) → ltb n 128 ≡ a → ltb m 128 ≡ b → leb_within k (n / 128) ≤ leb_within k (m / 128) → cond a 1 (1 + leb_within k (n / 128)) ≤ cond b 1 (1 + leb_within k (m / 128))
-    by true true p q less = omega arith
-    by true false p q less = omega arith
-    by false true p q less = absurd (omega (arith, ltb-false n 128 p, ltb-true m 128 q, h))
-    by false false p q less = omega (arith, less)
-
-pub leb_size_grows : (n m : ℕ) → n ≤ m → leb_size n ≤ leb_size m
-unfolding leb_size
-leb_size_grows n m h = leb_grows 9 n m h

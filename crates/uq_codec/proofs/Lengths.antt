@@ -8,7 +8,7 @@ use Rattle.uq_value.specs.Data.{Bytes}
 use Rattle.uq_value.specs.Size.{most_size}
 use Rattle.uq_codec.specs.Varint.{IsVarint}
 use Rattle.uq_codec.specs.Stored.{IsName}
-use Rattle.uq_codec.specs.Reading.{Front, NoFront, ReadsLength, ReadsName}
+use Rattle.uq_codec.specs.Internal.Reading.{Front, NoFront, ReadsLength, ReadsName}
 use Rattle.uq_codec.proofs.Determined.{varint_same}
 
 -- a group before others

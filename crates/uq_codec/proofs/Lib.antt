@@ -5,6 +5,5 @@ mod Lengths
 mod Lists
 mod Numbers
 mod Objects
-mod Values
 mod Verdicts
 mod Written

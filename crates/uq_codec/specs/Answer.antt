@@ -11,7 +11,7 @@ abbrev pub Appends : Bytes → Bytes → Value → Type 0
 Appends old new v = (word : Bytes) × (new ≡ old ++ word) × IsStored word v
 
 -- The first bytes are the stored form of a value, or those of no length are. Want of memory may always be the answer.
-abbrev pub Answers : Bytes → Result (Value × ℕ) CodecFault → Type 0
-Answers bytes (Ok x) = (x.1 ≤ length bytes) × IsStored (take x.1 bytes) x.0
-Answers bytes (Err NotCanonical) = (n : ℕ) (v : Value) → IsStored (take n bytes) v → ⊥
-Answers bytes (Err Memory) = Unit {0}
+abbrev pub CodecAnswers : Bytes → Result (Value × ℕ) CodecFault → Type 0
+CodecAnswers bytes (Ok x) = (x.1 ≤ length bytes) × IsStored (take x.1 bytes) x.0
+CodecAnswers bytes (Err NotCanonical) = (n : ℕ) (v : Value) → IsStored (take n bytes) v → ⊥
+CodecAnswers bytes (Err Memory) = Unit {0}

@@ -4,7 +4,7 @@ use Rattle.uq_value.specs.Data.{Bytes}
 use Rattle.uq_value.specs.Plain.{size}
 use Rattle.uq_value.specs.declared.value.Value.{Value}
 use Rattle.uq_codec.specs.Stored.{IsStored}
-use Rattle.uq_codec.specs.Answer.{Answers}
+use Rattle.uq_codec.specs.Answer.{CodecAnswers}
 use Rattle.uq_codec.specs.declared.error.CodecFault.{CodecFault}
 use Rattle.uq_codec.specs.declared.error.CodecFault.TheVariants.{Memory}
 
@@ -23,4 +23,4 @@ LengthIsSize = (word : Bytes) (v : Value) → IsStored word v → length word �
 -- whatever follows it, it is decoded to its value and its length
 abbrev pub DecodesAgain : Type 0
 DecodesAgain = (word rest : Bytes) (v : Value) (result : Result (Value × ℕ) CodecFault) →
-    IsStored word v → Answers (word ++ rest) result → result ≢ Err Memory → result ≡ Ok (v, length word)
+    IsStored word v → CodecAnswers (word ++ rest) result → result ≢ Err Memory → result ≡ Ok (v, length word)

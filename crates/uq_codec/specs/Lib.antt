@@ -1,7 +1,5 @@
 pub mod Varint
-pub mod Kinds
 pub mod Stored
 pub mod Answer
-pub mod Reading
-pub mod Writing
 pub mod Laws
+pub mod Internal

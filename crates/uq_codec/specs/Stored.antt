@@ -1,7 +1,7 @@
 -- The stored form of a value: a byte for its kind, and what that kind keeps.
 use Rattle.std.specs.Prelude.{◌≡◌, ◌-◌, ◌^◌, ◌<◌, ◌≤◌, ℤ, pos, negsuc, if◌then◌else◌, [], ◌∷◌, ◌++◌, length}
 use Rattle.std.specs.Int.{w64, to_be_bytes}
-use Rattle.uq_value.specs.Data.{Bytes, Data, null, boolean, whole, text, sequence, mapping, Items, no_items, item, Members, no_members, member, list_of, pairs_of, names_of, IsDistinct}
+use Rattle.uq_value.specs.Data.{Bytes, Data, null, bool, int, text, sequence, mapping, Items, no_items, item, Members, no_members, member, list_of, pairs_of, names_of, IsDistinct}
 use Rattle.uq_value.specs.Size.{most_size}
 use Rattle.uq_value.specs.Depth.{most_depth}
 use Rattle.uq_value.specs.Plain.{plain, size, depth}
@@ -21,26 +21,26 @@ pub record IsName (word bytes : Bytes) : Type 0 where
 
 -- the bytes spell this value, its limits aside
 abbrev mutual
-  pub Spells : Bytes → Data → Type 0
-  Spells word null = word ≡ 0 ∷ []
-  Spells word (boolean b) = word ≡ (if b then 2 else 1) ∷ []
-  Spells word (whole z) = (number : Bytes) × (word ≡ 3 ∷ number) × IsWhole number z
-  Spells word (text bytes) = (name : Bytes) × (word ≡ 4 ∷ name) × IsName name bytes
-  Spells word (sequence ds) =
-      (count : Bytes) × (body : Bytes) × (word ≡ 5 ∷ (count ++ body)) × IsVarint count (length (list_of ds)) × SpellsItems body ds
-  Spells word (mapping ms) =
-      (count : Bytes) × (body : Bytes) × (word ≡ 6 ∷ (count ++ body)) × IsVarint count (length (pairs_of ms)) × SpellsMembers body ms × IsDistinct (names_of (pairs_of ms))
+  pub Encodes : Bytes → Data → Type 0
+  Encodes word null = word ≡ 0 ∷ []
+  Encodes word (bool b) = word ≡ (if b then 2 else 1) ∷ []
+  Encodes word (int z) = (number : Bytes) × (word ≡ 3 ∷ number) × IsWhole number z
+  Encodes word (text bytes) = (name : Bytes) × (word ≡ 4 ∷ name) × IsName name bytes
+  Encodes word (sequence ds) =
+      (count : Bytes) × (body : Bytes) × (word ≡ 5 ∷ (count ++ body)) × IsVarint count (length (list_of ds)) × EncodesItems body ds
+  Encodes word (mapping ms) =
+      (count : Bytes) × (body : Bytes) × (word ≡ 6 ∷ (count ++ body)) × IsVarint count (length (pairs_of ms)) × EncodesMembers body ms × IsDistinct (names_of (pairs_of ms))
 
   -- items stand one behind the other
-  pub SpellsItems : Bytes → Items → Type 0
-  SpellsItems word no_items = word ≡ []
-  SpellsItems word (item d ds) = (front : Bytes) × (back : Bytes) × (word ≡ front ++ back) × Spells front d × SpellsItems back ds
+  pub EncodesItems : Bytes → Items → Type 0
+  EncodesItems word no_items = word ≡ []
+  EncodesItems word (item d ds) = (front : Bytes) × (back : Bytes) × (word ≡ front ++ back) × Encodes front d × EncodesItems back ds
 
   -- so do members, each a name and a value
-  pub SpellsMembers : Bytes → Members → Type 0
-  SpellsMembers word no_members = word ≡ []
-  SpellsMembers word (member name d ms) =
-      (label : Bytes) × (front : Bytes) × (back : Bytes) × (word ≡ label ++ (front ++ back)) × IsName label name × Spells front d × SpellsMembers back ms
+  pub EncodesMembers : Bytes → Members → Type 0
+  EncodesMembers word no_members = word ≡ []
+  EncodesMembers word (member name d ms) =
+      (label : Bytes) × (front : Bytes) × (back : Bytes) × (word ≡ label ++ (front ++ back)) × IsName label name × Encodes front d × EncodesMembers back ms
 
 -- one member: a name and a value
 pub record IsMember (word name : Bytes) (d : Data) : Type 0 where
@@ -48,10 +48,10 @@ pub record IsMember (word name : Bytes) (d : Data) : Type 0 where
   pub front : Bytes
   pub parts : word ≡ label ++ front
   pub is_name : IsName label name
-  pub is_value : Spells front d
+  pub is_value : Encodes front d
 
 -- the bytes are the stored form of this value, which is within the limits
 pub record IsStored (word : Bytes) (v : Value) : Type 0 where
-  pub spells : Spells word (plain v)
+  pub spells : Encodes word (plain v)
   pub small : size v ≤ most_size
   pub shallow : depth v ≤ most_depth

@@ -3,26 +3,26 @@ ghost use Rattle.std.specs.Prelude.{◌≡◌, ◌≤◌, ◌∷◌, ℕ, suc};
 ghost use Rattle.uq_value.specs.Data.{list as list_data};
 ghost use Rattle.uq_value.specs.Depth.{data_depth, most_depth};
 ghost use Rattle.uq_value.specs.Plain.{plain};
-ghost use Rattle.uq_codec.specs.Answer.{Answers};
+ghost use Rattle.uq_codec.specs.Answer.{CodecAnswers};
 ghost use Rattle.uq_codec.specs.Stored.{IsWhole};
-ghost use Rattle.uq_codec.specs.Reading.{ReadsValue, ReadsItems, AddsItem, Passes, ReadsMember, ReadsMembers};
+ghost use Rattle.uq_codec.specs.Internal.Reading.{ReadsValue, ReadsItems, AddsItem, Passes, ReadsMember, ReadsMembers};
 
 use crate::error::CodecFault;
 use crate::kind::{Kind, next_kind};
 use crate::varint::{read_length, read_name};
 use std::alloc::Global;
-use uq_value::{List, ObjectBuilder, Text, Value, ValueFault, within_limits};
+use uq_value::{List, MOST_DEPTH, ObjectBuilder, Text, Value, ValueFault, is_value};
 
-/// The greatest depth of a value.
-const MOST_DEPTH: u32 = 128;
+/// A list takes room for so many items at most before they are read, since what its length claims need not come.
+const MOST_AT_ONCE: usize = 1_024;
 
 /// The value whose stored form is next, and how many bytes that takes. It is `NotCanonical` exactly where the bytes do
 /// not begin with a stored form.
 pub fn decode(alloc: Global, bytes: &[u8]) -> Result<(Value, usize), CodecFault>
-    ensures { Answers bytes.now result }
+    ensures { CodecAnswers bytes.now result }
 {
     let (value, rest) = value(alloc, MOST_DEPTH, bytes)?;
-    within_limits(&value);
+    is_value(&value);
     Ok((value, bytes.len() - rest.len()))
 }
 
@@ -97,7 +97,10 @@ fn items(alloc: Global, room: u32, count: usize, bytes: &[u8]) -> Result<(List, 
     requires { suc room ≤ most_depth }
     ensures { ReadsItems (suc room) count bytes.now result }
 {
-    let mut found = List::new(alloc);
+    let room_for = count.min(bytes.len()).min(MOST_AT_ONCE);
+    let Ok(mut found) = List::with_capacity(alloc, room_for) else {
+        return Err(CodecFault::Memory);
+    };
     let mut rest = bytes;
     for _ in 0..count {
         let (item, behind) = value(alloc, room, rest)?;
@@ -161,10 +164,10 @@ fn members(
 {
     let mut found = ObjectBuilder::new(alloc);
     let mut rest = bytes;
-    for _ in 0..count {
+    for at in 0..count {
         let (name, value, behind) = member(alloc, room, rest)?;
-        let is_new = found.set(name, Some(value))?;
-        if !is_new {
+        let place = found.set(name, value)?;
+        if place < at {
             return Err(CodecFault::NotCanonical);
         }
         rest = behind;

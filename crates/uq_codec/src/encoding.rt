@@ -1,27 +1,26 @@
 //! Writing the stored form of a value.
 ghost use Rattle.std.specs.Prelude.{◌≡◌, ◌<◌, [], ◌∷◌, length, OnOk, OnErr};
-ghost use Rattle.uq_value.specs.Data.{text, whole, list as list_data, object as object_data};
+ghost use Rattle.uq_value.specs.Data.{text, int, list as list_data, object as object_data};
 ghost use Rattle.uq_value.specs.Plain.{plain};
 ghost use Rattle.uq_codec.specs.Answer.{Appends};
-ghost use Rattle.uq_codec.specs.Stored.{IsName, Spells};
-ghost use Rattle.uq_codec.specs.Writing.{Writes, SpellsItemAt, SpellsMemberAt};
+ghost use Rattle.uq_codec.specs.Stored.{IsName, Encodes};
+ghost use Rattle.uq_codec.specs.Internal.Kinds.{byte_of};
+ghost use Rattle.uq_codec.specs.Internal.Writing.{Writes, EncodesItemAt, EncodesMemberAt};
 
-use crate::kind::{FALSE, LIST, NULL, OBJECT, TEXT, TRUE, WHOLE};
+use crate::kind::Kind;
 use crate::varint::push_length;
 use byteorder::{BigEndian, ByteOrder};
 use std::alloc::{AllocError, Global};
-use uq_value::{List, NoMemory, Object, Value, size, within_limits};
+use uq_value::{List, NoMemory, Object, Value, is_value, size};
 
 /// Appends the stored form of the value. All memory that it takes is the buffer's own, which keeps its allocator.
 pub fn encode(_alloc: Global, v: &Value, out: &mut Vec<u8>) -> Result<(), NoMemory>
     ensures stored { OnOk result (Appends out.old.items out.new.items v.now) }
     ensures unchanged { OnErr result (out.new.items ≡ out.old.items) }
 {
-    within_limits(v);
+    is_value(v);
     // The buffer grows once at most.
-    let Ok(()) = out.reserve(size(v) as usize) else {
-        return Err(NoMemory);
-    };
+    out.reserve(size(v) as usize)?;
     let before = out.len();
     match push_value(out, v) {
         Ok(()) => Ok(()),
@@ -34,12 +33,12 @@ pub fn encode(_alloc: Global, v: &Value, out: &mut Vec<u8>) -> Result<(), NoMemo
 
 #[cycle(encode)]
 fn push_value(out: &mut Vec<u8>, v: &Value) -> Result<(), AllocError>
-    ensures { Writes (λ word. Spells word (plain v.now)) out.old.items out.new.items result }
+    ensures { Writes (λ word. Encodes word (plain v.now)) out.old.items out.new.items result }
 {
     match v {
-        Value::Null => push_byte(out, NULL),
-        Value::Bool(false) => push_byte(out, FALSE),
-        Value::Bool(true) => push_byte(out, TRUE),
+        Value::Null => push_kind(out, Kind::Null),
+        Value::Bool(false) => push_kind(out, Kind::False),
+        Value::Bool(true) => push_kind(out, Kind::True),
         Value::Int(z) => push_whole(out, *z),
         Value::Text(t) => push_text(out, t.bytes()),
         Value::List(l) => push_list(out, l),
@@ -49,9 +48,9 @@ fn push_value(out: &mut Vec<u8>, v: &Value) -> Result<(), AllocError>
 
 #[cycle(encode)]
 fn push_list(out: &mut Vec<u8>, list: &List) -> Result<(), AllocError>
-    ensures { Writes (λ word. Spells word (list_data list.now)) out.old.items out.new.items result }
+    ensures { Writes (λ word. Encodes word (list_data list.now)) out.old.items out.new.items result }
 {
-    push_byte(out, LIST)?;
+    push_kind(out, Kind::List)?;
     push_length(out, list.len())?;
     for at in 0..list.len() {
         push_item(out, list, at)?;
@@ -62,7 +61,7 @@ fn push_list(out: &mut Vec<u8>, list: &List) -> Result<(), AllocError>
 #[cycle(encode)]
 fn push_item(out: &mut Vec<u8>, list: &List, at: usize) -> Result<(), AllocError>
     requires { at < length list.now }
-    ensures { Writes (SpellsItemAt list.now at) out.old.items out.new.items result }
+    ensures { Writes (EncodesItemAt list.now at) out.old.items out.new.items result }
 {
     match list.item(at) {
         Some(item) => push_value(out, item),
@@ -72,10 +71,10 @@ fn push_item(out: &mut Vec<u8>, list: &List, at: usize) -> Result<(), AllocError
 
 #[cycle(encode)]
 fn push_object(out: &mut Vec<u8>, object: &Object) -> Result<(), AllocError>
-    ensures { Writes (λ word. Spells word (object_data object.now)) out.old.items out.new.items result }
+    ensures { Writes (λ word. Encodes word (object_data object.now)) out.old.items out.new.items result }
 {
-    object.has_distinct_names();
-    push_byte(out, OBJECT)?;
+    object.is_value();
+    push_kind(out, Kind::Object)?;
     push_length(out, object.len())?;
     for at in 0..object.len() {
         push_member(out, object, at)?;
@@ -86,7 +85,7 @@ fn push_object(out: &mut Vec<u8>, object: &Object) -> Result<(), AllocError>
 #[cycle(encode)]
 fn push_member(out: &mut Vec<u8>, object: &Object, at: usize) -> Result<(), AllocError>
     requires { at < length object.now }
-    ensures { Writes (SpellsMemberAt object.now at) out.old.items out.new.items result }
+    ensures { Writes (EncodesMemberAt object.now at) out.old.items out.new.items result }
 {
     match object.member(at) {
         Some((name, value)) => {
@@ -98,17 +97,17 @@ fn push_member(out: &mut Vec<u8>, object: &Object, at: usize) -> Result<(), Allo
 }
 
 fn push_whole(out: &mut Vec<u8>, z: i64) -> Result<(), AllocError>
-    ensures { Writes (λ word. Spells word (whole z)) out.old.items out.new.items result }
+    ensures { Writes (λ word. Encodes word (int z)) out.old.items out.new.items result }
 {
-    let mut word = [WHOLE; 9];
+    let mut word = [Kind::Whole as u8; 9];
     BigEndian::write_i64(&mut word[1..], z);
     out.extend_from_slice(&word)
 }
 
 fn push_text(out: &mut Vec<u8>, bytes: &[u8]) -> Result<(), AllocError>
-    ensures { Writes (λ word. Spells word (text bytes.now)) out.old.items out.new.items result }
+    ensures { Writes (λ word. Encodes word (text bytes.now)) out.old.items out.new.items result }
 {
-    push_byte(out, TEXT)?;
+    push_kind(out, Kind::Text)?;
     push_name(out, bytes)
 }
 
@@ -120,9 +119,10 @@ fn push_name(out: &mut Vec<u8>, bytes: &[u8]) -> Result<(), AllocError>
     out.extend_from_slice(bytes)
 }
 
-fn push_byte(out: &mut Vec<u8>, byte: u8) -> Result<(), AllocError>
-    ensures { Writes (λ word. word ≡ byte ∷ []) out.old.items out.new.items result }
+/// Appends the byte with which a kind begins.
+fn push_kind(out: &mut Vec<u8>, kind: Kind) -> Result<(), AllocError>
+    ensures { Writes (λ word. word ≡ byte_of kind ∷ []) out.old.items out.new.items result }
 {
-    out.push(byte)?;
+    out.push(kind as u8)?;
     Ok(())
 }

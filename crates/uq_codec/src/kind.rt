@@ -1,31 +1,28 @@
 //! The bytes with which stored forms begin, one for each kind of value.
-ghost use Rattle.uq_codec.specs.Kinds.{IsKind, ReadsKind};
+ghost use Rattle.uq_codec.specs.Internal.Kinds.{IsKind, ReadsKind};
 
-pub(crate) const NULL: u8 = 0;
-
-pub(crate) const FALSE: u8 = 1;
-
-pub(crate) const TRUE: u8 = 2;
-
-pub(crate) const WHOLE: u8 = 3;
-
-pub(crate) const TEXT: u8 = 4;
-
-pub(crate) const LIST: u8 = 5;
-
-pub(crate) const OBJECT: u8 = 6;
-
-/// What a stored form begins as.
+/// What a stored form begins as: each kind's number is its byte.
 #[derive(Clone, Copy, Debug, PartialEq, Eq)]
 pub(crate) enum Kind {
-    Null,
-    False,
-    True,
-    Whole,
-    Text,
-    List,
-    Object,
+    Null = 0,
+    False = 1,
+    True = 2,
+    Whole = 3,
+    Text = 4,
+    List = 5,
+    Object = 6,
 }
+
+/// All kinds, by their bytes.
+const KINDS: [Kind; 7] = [
+    Kind::Null,
+    Kind::False,
+    Kind::True,
+    Kind::Whole,
+    Kind::Text,
+    Kind::List,
+    Kind::Object,
+];
 
 /// The kind that is next, and the bytes behind its byte.
 pub(crate) fn next_kind(bytes: &[u8]) -> Option<(Kind, &[u8])>
@@ -43,20 +40,9 @@ pub(crate) fn next_kind(bytes: &[u8]) -> Option<(Kind, &[u8])>
 fn kind_of(byte: u8) -> Option<Kind>
     ensures { IsKind byte result }
 {
-    if byte == NULL {
-        Some(Kind::Null)
-    } else if byte == FALSE {
-        Some(Kind::False)
-    } else if byte == TRUE {
-        Some(Kind::True)
-    } else if byte == WHOLE {
-        Some(Kind::Whole)
-    } else if byte == TEXT {
-        Some(Kind::Text)
-    } else if byte == LIST {
-        Some(Kind::List)
-    } else if byte == OBJECT {
-        Some(Kind::Object)
+    let at = byte as usize;
+    if at < KINDS.len() {
+        Some(KINDS[at])
     } else {
         None
     }

@@ -66,7 +66,7 @@ fn lengths_are_written_in_groups_of_seven_bits(rt: HostRuntime) {
             bytes.push(b'x').expect(&rt, "a byte");
             want.push(b'x').expect(&rt, "a byte");
         }
-        let text = Text::from_vec(bytes).expect(&rt, "a text");
+        let text = Text::from_vec(alloc, bytes).expect(&rt, "a text");
         check_encodes(&rt, alloc, &Value::Text(text), want.as_slice());
     }
 }
@@ -200,4 +200,30 @@ fn the_limits_of_depth_and_size_are_kept(rt: HostRuntime) {
             Err(fault) => assert!(rt; !fits && fault == CodecFault::NotCanonical),
         }
     }
+}
+
+#[test]
+fn long_lists_and_names_are_written_and_read(rt: HostRuntime) {
+    let alloc = rt.alloc();
+    // 10,000 is 16 and 78 times 128, and 100,000 is 32, 13 times 128 and 6 times 128 times 128
+    let mut list = List::new(alloc);
+    let mut items = Vec::from_slice(alloc, b"\x05\x90\x4e").expect(&rt, "the front");
+    for _ in 0..10_000 {
+        list.push(Value::Null).expect(&rt, "an item");
+        items.push(0).expect(&rt, "an item");
+    }
+    let list = Value::List(list);
+    check_encodes(&rt, alloc, &list, items.as_slice());
+    check_decodes(&rt, alloc, items.as_slice(), &list);
+    let mut name = Vec::new(alloc);
+    name.resize(100_000, b'n').expect(&rt, "the name");
+    let mut object = Value::Null;
+    put_member(alloc, &mut object, name.as_slice(), Value::Null).expect(&rt, "a member");
+    let mut member = Vec::from_slice(alloc, b"\x06\x01\xa0\x8d\x06").expect(&rt, "the front");
+    member
+        .extend_from_slice(name.as_slice())
+        .expect(&rt, "the name");
+    member.push(0).expect(&rt, "the value");
+    check_encodes(&rt, alloc, &object, member.as_slice());
+    check_decodes(&rt, alloc, member.as_slice(), &object);
 }

@@ -1,12 +1,13 @@
 //! Lengths and counts: unsigned LEB128 in the shortest spelling.
 ghost use Rattle.uq_codec.specs.Varint.{IsVarint};
-ghost use Rattle.uq_codec.specs.Reading.{ReadsLength, ReadsName};
-ghost use Rattle.uq_codec.specs.Writing.{Writes};
+ghost use Rattle.uq_codec.specs.Internal.Reading.{ReadsLength, ReadsName};
+ghost use Rattle.uq_codec.specs.Internal.Writing.{Writes};
 
 use std::alloc::AllocError;
+use uq_value::MOST_SIZE;
 
-/// The greatest size of a value, in bytes of its stored form: 2^24 - 64. No length in a stored form is greater.
-const MOST_SIZE: usize = 16_777_152;
+/// No length or count in a stored form is greater: each byte and each part that it counts takes a byte of the value.
+const MOST_LENGTH: usize = MOST_SIZE as usize;
 
 /// Appends a length or count.
 pub(crate) fn push_length(out: &mut Vec<u8>, n: usize) -> Result<(), AllocError>
@@ -28,7 +29,7 @@ pub(crate) fn read_length(bytes: &[u8]) -> Option<(usize, &[u8])>
     // What the groups so far count together, and what one in the next group counts.
     let (mut low, mut weight) = (0, 1);
     let mut rest = bytes;
-    while weight <= MOST_SIZE {
+    while weight <= MOST_LENGTH {
         let [group, behind @ ..] = rest else {
             return None;
         };
@@ -38,7 +39,7 @@ pub(crate) fn read_length(bytes: &[u8]) -> Option<(usize, &[u8])>
                 return None;
             }
             let n = low + group * weight;
-            return if n > MOST_SIZE {
+            return if n > MOST_LENGTH {
                 None
             } else {
                 Some((n, behind))

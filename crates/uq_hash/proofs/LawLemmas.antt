@@ -1,74 +1,60 @@
 -- The laws of the layout.
-use Rattle.std.proofs.Common.{◌≡◌, ℕ, ◌+◌, ◌-◌, ◌*◌, ◌<◌, ◌≤◌, ◌^◌, true, cond, T, List, [], ◌∷◌, ◌++◌, length, take, drop, Option, Some, None, refl, sym, ap, subst, ◌∙◌, arith, append_assoc}
-use Rattle.std.specs.Prelude.{sum_by, slice_get, slice_set}
-use Rattle.std.specs.Ordering.{nat_cmp, is_eq, is_lt}
-use Rattle.std.specs.Cmp.{IsTotalOrder}
+use Rattle.std.proofs.Common.{◌≡◌, ℕ, ◌+◌, ◌*◌, true, cond, List, [], ◌∷◌, ◌++◌, length, Option, Some, None, refl, sym, ap, subst, ◌∙◌, arith, append_assoc, length-append}
+use Rattle.std.specs.Prelude.{sum_by, slice_set}
+use Rattle.std.specs.Ordering.{nat_cmp, is_eq}
 use Rattle.std.specs.Cmp.Lexicographic.{slice_cmp, nat_list_cmp_total}
 use Rattle.std.specs.FinMap.{get, insert, len, entries, from_entries, entries_sorted, get-entries, entries-insert, len-entries}
-use Rattle.std.specs.FinMap.Entries.{put, find, by_order, below_all, is_sorted}
+use Rattle.std.specs.FinMap.Entries.{put, find, by_order, is_sorted}
 use Rattle.std.specs.declared.cmp.Ordering.TheVariants.{Less, Equal, Greater}
-use Rattle.std.proofs.lemmas.List.{take_at, drop_at, length-set, get_or-set_other}
+use Rattle.std.proofs.lemmas.List.{length-set, get_or-set_other}
 use Rattle.std.proofs.lemmas.List.Sums.{sum_by-cons}
 use Rattle.std.proofs.lemmas.Option.{slice_get-get_or}
 use Rattle.uq_page.specs.declared.header.Header.{Header}
-use Rattle.uq_page.specs.Bucket.{bucket_fields}
-use Rattle.uq_page.specs.BucketLaws.{same_cells as same_head}
-use Rattle.uq_page.specs.Cell.{cell_lengths}
-use Rattle.uq_page.specs.CellLaws.{cell_lengths_inj, length-cell_lengths}
-use Rattle.uq_page.specs.Page.{zeros}
-use Rattle.uq_hash.specs.Map.{Map, Entry, HoldsMap, bucket_page, bytes_in, cell, cell_len, cells_len, cells_of, entry_len, head_of}
+use Rattle.uq_page.specs.Laws.{OneBucketHead, OneCell}
+use Rattle.uq_hash.specs.Map.{Map, Entry, bytes_in, cell, cell_len, cells_len, entry_len}
 use Rattle.uq_hash.specs.Slot.{entry_of}
-use Rattle.uq_hash.proofs.EntryLemmas.{drop-bucket_page, few_cells, length-cells_of-cons, take-bucket_page}
-use Rattle.uq_hash.proofs.MapLemmas.{some_same}
+use Rattle.uq_hash.proofs.EntryLemmas.{cells_of-append, entry_at, head_is, length-cells_of-cons}
 use Rattle.uq_hash.proofs.WalkLemmas.{bytes_same, find_behind, sorted_rest, true_is}
+use Rattle.uq_hash.specs.OnePage.{IsEntryAt, IsOnePage, cells_of, head_of}
+use Rattle.uq_hash.specs.WalkOrder.{hash_start}
+use Rattle.uq_hash.proofs.HeldLemmas.{Opened, some_same}
+use Rattle.uq_page.specs.declared.layout.TheConstants.{CELL_HEAD, CELLS_AT}
 
--- equal lists have equal fronts of one length, and equal rests
-pub same_parts : (a b c d : List ℕ) → length a ≡ length c → a ++ b ≡ c ++ d → (a ≡ c) × (b ≡ d)
-same_parts a b c d long same = (
-  sym (take_at a b (length a) refl) ∙ ap (take (length a)) same ∙ take_at c d (length a) (sym long),
-  sym (drop_at a b (length a) refl) ∙ ap (drop (length a)) same ∙ drop_at c d (length a) (sym long),
-)
+-- behind as many bytes of cells as many cells of a page are the same
+same_behind : OneCell → (start : ℕ) (page : List ℕ) (done rest done' rest' : List Entry) → IsOnePage start page (done ++ rest) → IsOnePage start page (done' ++ rest')
+    → length (cells_of done) ≡ length (cells_of done') → length rest ≡ length rest' → rest ≡ rest'
+same_behind one start page done [] done' [] is is' long count = refl
+same_behind one start page done [] done' (f ∷ rest') is is' long count = absurd (omega arith)
+same_behind one start page done (e ∷ rest) done' [] is is' long count = absurd (omega arith)
+same_behind one start page done (e ∷ rest) done' (f ∷ rest') is is' long count =
+    let here : IsEntryAt page (CELLS_AT + length (cells_of done)) e.0 e.1 = entry_at start page done e rest is in
+    let there : IsEntryAt page (CELLS_AT + length (cells_of done)) f.0 f.1 =
+    subst (λ n. IsEntryAt page (CELLS_AT + n) f.0 f.1) (sym long) (entry_at start page done' f rest' is') in
+    let same = one page (CELLS_AT + length (cells_of done)) e.0 (length e.1) e.1 f.0 (length f.1) f.1 here there in
+    let size = cells_more done e in
+    let size' = cells_more done' f in
+    let key = ap length same.0 in
+    let value = same.1 in
+    let behind = same_behind one start page (done ++ e ∷ []) rest (done' ++ f ∷ []) rest'
+    (subst (IsOnePage start page) (sym (append_assoc done (e ∷ []) rest)) is) (subst (IsOnePage start page) (sym (append_assoc done' (f ∷ []) rest')) is')
+    (omega arith) (omega arith) in
+    λ i. (same.0 i, same.2 i) ∷ behind i
+  where
+    cells_more : (done : List Entry) (e : Entry) → length (cells_of (done ++ e ∷ [])) ≡ length (cells_of done) + (CELL_HEAD + length e.0 + length e.1)
+    cells_more done e =
+        ap length (cells_of-append done (e ∷ [])) ∙ length-append (cells_of done) (cells_of (e ∷ [])) ∙ ap (λ n. length (cells_of done) + n) (length-cells_of-cons e [])
+        ∙ (omega arith)
 
-cell_split : (e : Entry) (rest : List ℕ) → cell e ++ rest ≡ cell_lengths (length e.0) (length e.1) ++ (e.0 ++ (e.1 ++ rest))
-unfolding cell
-cell_split e rest =
-    append_assoc (cell_lengths (length e.0) (length e.1) ++ e.0) e.1 rest ∙ append_assoc (cell_lengths (length e.0) (length e.1)) e.0 (e.1 ++ rest)
-
--- as many cells in equal bytes are the same cells
-same_cells : (xs ys : List Entry) (a b : List ℕ) → length xs ≡ length ys → length (cells_of xs) ≤ 4080 → length (cells_of ys) ≤ 4080
-    → cells_of xs ++ a ≡ cells_of ys ++ b → xs ≡ ys
-same_cells [] [] a b count few few' same = refl
-same_cells [] (f ∷ ys) a b count few few' same = absurd (omega arith)
-same_cells (e ∷ xs) [] a b count few few' same = absurd (omega arith)
-same_cells (e ∷ xs) (f ∷ ys) a b count few few' same =
-    let size = length-cells_of-cons e xs in
-    let size' = length-cells_of-cons f ys in
-    let bytes = sym (append_assoc (cell e) (cells_of xs) a ∙ cell_split e (cells_of xs ++ a)) ∙ same ∙ append_assoc (cell f) (cells_of ys) b ∙ cell_split f (cells_of ys ++ b) in
-    let front = same_parts (cell_lengths (length e.0) (length e.1)) (e.0 ++ (e.1 ++ (cells_of xs ++ a))) (cell_lengths (length f.0) (length f.1)) (f.0 ++ (f.1 ++ (cells_of ys ++ b)))
-    (length-cell_lengths (length e.0) (length e.1) ∙ sym (length-cell_lengths (length f.0) (length f.1))) bytes in
-    let lengths = cell_lengths_inj (length e.0) (length e.1) (length f.0) (length f.1) (omega arith) (omega arith) (omega arith) (omega arith) front.0 in
-    let keys = same_parts e.0 (e.1 ++ (cells_of xs ++ a)) f.0 (f.1 ++ (cells_of ys ++ b)) lengths.0 front.1 in
-    let values = same_parts e.1 (cells_of xs ++ a) f.1 (cells_of ys ++ b) lengths.1 keys.1 in
-    let rest = same_cells xs ys a b (omega arith) (omega arith) (omega arith) values.1 in
-    λ i. (keys.0 i, values.0 i) ∷ rest i
-
-same_count : (xs ys : List Entry) → length (cells_of xs) ≤ 4080 → length (cells_of ys) ≤ 4080 → bucket_page xs ≡ bucket_page ys → length xs ≡ length ys
-same_count xs ys few few' same =
-    let heads : bucket_fields (head_of xs) ≡ bucket_fields (head_of ys) = sym (take-bucket_page xs) ∙ ap (take 16) same ∙ take-bucket_page ys in
-    let some = few_cells xs in
-    let some' = few_cells ys in
-    same_head (head_of xs) (head_of ys) (omega arith) (omega arith) heads
-
-pub one_held : (pages : List (List ℕ)) (header : Header) (m n : Map) → HoldsMap pages header m → HoldsMap pages header n → m ≡ n
-one_held pages header m n first second =
+pub one_held : OneBucketHead → OneCell → (pages : List (List ℕ)) (header : Header) (m n : Map) → Opened pages header m → Opened pages header n → m ≡ n
+one_held head cell pages header m n first second =
+    let start = hash_start header in
     let page : first.page ≡ second.page = some_same (sym first.first ∙ second.first) in
-    let same : bucket_page first.cells ≡ bucket_page second.cells = sym first.bucket.bytes ∙ page ∙ second.bucket.bytes in
-    let count = same_count first.cells second.cells first.bucket.fits second.bucket.fits same in
-    let bytes = sym (drop-bucket_page first.cells) ∙ ap (drop 16) same ∙ drop-bucket_page second.cells in
-    let cells = same_cells first.cells second.cells _ _ count first.bucket.fits second.bucket.fits bytes in
+    let other : IsOnePage start first.page second.cells = subst (λ (bytes : List ℕ). IsOnePage start bytes second.cells) (sym page) second.bucket in
+    let heads = head first.page (head_of first.cells) (head_of second.cells) (head_is start first.page first.cells first.bucket) (head_is start first.page second.cells other) in
+    let cells = same_behind cell start first.page [] first.cells [] second.cells first.bucket other refl (ap (λ h. h.cells) heads) in
     first.same ∙ ap (λ xs. from_entries xs) cells ∙ sym second.same
 
-pub apart : (pages : List (List ℕ)) (header : Header) (m : Map) (page : List ℕ) → HoldsMap pages header m → HoldsMap (slice_set pages 0 page) header m
+pub apart : (pages : List (List ℕ)) (header : Header) (m : Map) (page : List ℕ) → Opened pages header m → Opened (slice_set pages 0 page) header m
 apart pages header m page held =
     let long = length-set pages 0 page in
     let used = held.used in
@@ -84,7 +70,7 @@ apart pages header m page held =
       same = held.same;
     }
 
-sum_by-parts : (xs : List Entry) → sum_by cell_len xs ≡ 6 * length xs + sum_by entry_len xs
+sum_by-parts : (xs : List Entry) → sum_by cell_len xs ≡ CELL_HEAD * length xs + sum_by entry_len xs
 sum_by-parts [] = refl
 sum_by-parts (e ∷ xs) =
     let a = sum_by-cons cell_len e xs in
@@ -92,7 +78,7 @@ sum_by-parts (e ∷ xs) =
     let rest = sum_by-parts xs in
     omega arith
 
-pub cells_by : (m : Map) → cells_len m ≡ 6 * len m + bytes_in m
+pub cells_by : (m : Map) → cells_len m ≡ CELL_HEAD * len m + bytes_in m
 cells_by m = let count = len-entries m in let parts = sum_by-parts (entries m) in omega arith
 
 -- a sum over the entries with a key put among them, and over the key's old one

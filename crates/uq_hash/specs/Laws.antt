@@ -2,6 +2,7 @@
 use Rattle.std.specs.Prelude.{◌≡◌, ℕ, ◌+◌, ◌*◌, List, length, sum_by, slice_set}
 use Rattle.std.specs.FinMap.{get, insert, len}
 use Rattle.uq_page.specs.declared.header.Header.{Header}
+use Rattle.uq_page.specs.declared.layout.TheConstants.{CELL_HEAD}
 use Rattle.uq_hash.specs.Map.{Map, HoldsMap, bytes_in, cells_len, entry_len}
 use Rattle.uq_hash.specs.Slot.{entry_of}
 
@@ -15,7 +16,7 @@ ApartFromHeader = (pages : List (List ℕ)) (header : Header) (m : Map) (page : 
 
 -- what a map's cells take, by the sums that a header keeps
 abbrev pub CellsBySums : Type 0
-CellsBySums = (m : Map) → cells_len m ≡ 6 * len m + bytes_in m
+CellsBySums = (m : Map) → cells_len m ≡ CELL_HEAD * len m + bytes_in m
 
 -- the sums after an insertion: the old entry of the key, where there was one, is no longer counted
 abbrev pub SumsOfInsert : Type 0

@@ -3,7 +3,9 @@ use Rattle.std.specs.Prelude.{◌≡◌, ℕ, ◌+◌, List, [], ◌∷◌, ◌+
 use Rattle.std.specs.FinMap.Entries.{put, find}
 use Rattle.uq_page.specs.declared.header.Header.{Header}
 use Rattle.uq_hash.specs.WalkOrder.{walk_cmp}
-use Rattle.uq_hash.specs.Map.{Entry, cells_of, entry_len}
+use Rattle.uq_page.specs.declared.layout.TheConstants.{CELLS_AT}
+use Rattle.uq_hash.specs.Map.{Entry, entry_len}
+use Rattle.uq_hash.specs.OnePage.{cells_of}
 
 -- the entry of a key, where it has a value
 abbrev pub entry_of : List ℕ → Option (List ℕ) → List Entry
@@ -11,14 +13,14 @@ entry_of key None = []
 entry_of key (Some value) = (key, value) ∷ []
 
 -- The key's cell, where there is one, lies from `from` to `to`, and a new value of the key belongs there.
-pub record IsSlot (entries : List Entry) (key : List ℕ) (from to : ℕ) (value : Option (List ℕ)) : Type 0 where
+pub record IsSlot (start : ℕ) (entries : List Entry) (key : List ℕ) (from to : ℕ) (value : Option (List ℕ)) : Type 0 where
   pub before : List Entry
   pub behind : List Entry
   pub split : entries ≡ before ++ (entry_of key value ++ behind)
-  pub begins : from ≡ 16 + length (cells_of before)
+  pub begins : from ≡ CELLS_AT + length (cells_of before)
   pub ends : to ≡ from + length (cells_of (entry_of key value))
-  pub found : find walk_cmp key entries ≡ value
-  pub put_here : (new : List ℕ) → put walk_cmp key new entries ≡ before ++ (key, new) ∷ behind
+  pub found : find (walk_cmp start) key entries ≡ value
+  pub put_here : (new : List ℕ) → put (walk_cmp start) key new entries ≡ before ++ (key, new) ∷ behind
 
 -- the length of a key's old value
 abbrev pub value_len : Option (List ℕ) → ℕ

@@ -1,10 +1,14 @@
-//! Laws of the layout, each the contract of a call that does nothing.
+//! Laws of the layout, each the contract of a call that changes nothing.
 ghost use Rattle.uq_hash.specs.Laws.{OneMap, ApartFromHeader, CellsBySums, SumsOfInsert};
+
+use uq_page::bytes_tell_fields;
 
 /// Pages and a header hold one map at most.
 pub fn one_map()
     ensures { OneMap }
-{}
+{
+    bytes_tell_fields();
+}
 
 /// The map does not depend on the page of the header.
 pub fn apart_from_header()

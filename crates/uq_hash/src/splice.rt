@@ -2,33 +2,38 @@
 ghost use Rattle.std.specs.Prelude.{◌≡◌, ◌+◌, ◌-◌, ◌≤◌, ℕ, List, ◌++◌, IsSomeAnd, length, take, drop};
 ghost use Rattle.std.specs.Option.{option_copied};
 ghost use Rattle.std.specs.FinMap.Entries.{put};
-ghost use Rattle.uq_page.specs.Page.{bytes_of, written, zeros};
+ghost use Rattle.uq_facts.specs.Written.{written};
+ghost use Rattle.uq_page.specs.Page.{bytes_of, zeros};
 ghost use Rattle.uq_hash.specs.WalkOrder.{walk_cmp};
-ghost use Rattle.uq_hash.specs.Map.{Entry, IsBucket, head_of, bucket_page, cells_of, cell};
+ghost use Rattle.uq_hash.specs.Map.{Entry, cell};
+ghost use Rattle.uq_hash.specs.OnePage.{IsOnePage, cells_of, entry_page, head_of};
 ghost use Rattle.uq_hash.specs.Slot.{IsSlot};
 
-use crate::slot::{LENGTHS, Slot};
-use uq_page::{BucketHead, Cell, CellValue, Page, write_bucket, write_cell};
+use crate::slot::Slot;
+use uq_page::{
+    BucketHead, CELL_HEAD, CELLS_AT, CELLS_ROOM, Cell, CellValue, MOST_INLINE, PAGE_SIZE, Page,
+    write_bucket, write_cell,
+};
 
 /// The cells of a page up to byte `from` and those between `to` and `end`, with a cell in between.
 fn splice(old: &Page, from: u32, to: u32, end: u32, key: &[u8], value: &[u8]) -> Page
-    requires low { 16 ≤ from }
+    requires low { CELLS_AT ≤ from }
     requires order { from ≤ to }
     requires end { to ≤ end }
-    requires high { end ≤ 4096 }
-    requires value { length value.now ≤ 255 }
-    requires room { from + 6 + length key.now + length value.now + (end - to) ≤ 4096 }
-    ensures { bytes_of result ≡ written 16 (take (from - 16) (drop 16 (bytes_of old.now)) ++ cell (key.now, value.now) ++ take (end - to) (drop to (bytes_of old.now))) (zeros 4096) }
+    requires high { end ≤ PAGE_SIZE }
+    requires value { length value.now ≤ MOST_INLINE }
+    requires room { from + CELL_HEAD + length key.now + length value.now + (end - to) ≤ PAGE_SIZE }
+    ensures { bytes_of result ≡ written CELLS_AT (take (from - CELLS_AT) (drop CELLS_AT (bytes_of old.now)) ++ cell (key.now, value.now) ++ take (end - to) (drop to (bytes_of old.now))) (zeros PAGE_SIZE) }
 {
     let cell = Cell {
         key,
         len: value.len() as u32,
         value: CellValue::Inline(value),
     };
-    let behind = (from + LENGTHS) as usize + key.len() + value.len();
+    let behind = from as usize + CELL_HEAD + key.len() + value.len();
     let bytes = old.bytes();
     let mut page = Page::zero();
-    page.put(16, &bytes[16..from as usize]);
+    page.put(CELLS_AT, &bytes[CELLS_AT..from as usize]);
     write_cell(&cell, &mut page, from);
     page.put(behind, &bytes[to as usize..end as usize]);
     page
@@ -43,21 +48,25 @@ pub(crate) fn with_entry(
     key: &[u8],
     value: &[u8],
 ) -> Option<Page>
-    requires low { 16 ≤ slot.now.from }
+    requires low { CELLS_AT ≤ slot.now.from }
     requires order { slot.now.from ≤ slot.now.to }
-    requires end { head.now.end ≤ 4096 }
-    requires value { length value.now ≤ 255 }
-    ensures exact { (entries : List Entry) → IsBucket (bytes_of page.now) entries → head.now ≡ head_of entries
-        → IsSlot entries key.now slot.now.from slot.now.to (option_copied slot.now.value)
-        → length (cells_of (put walk_cmp key.now value.now entries)) ≤ 4080
-        → IsSomeAnd result (λ new. bytes_of new ≡ bucket_page (put walk_cmp key.now value.now entries)) }
+    requires end { head.now.end ≤ PAGE_SIZE }
+    requires value { length value.now ≤ MOST_INLINE }
+    ensures exact { (start : ℕ) (entries : List Entry) → IsOnePage start (bytes_of page.now) entries → head.now ≡ head_of entries
+        → IsSlot start entries key.now slot.now.from slot.now.to (option_copied slot.now.value)
+        → length (cells_of (put (walk_cmp start) key.now value.now entries)) ≤ CELLS_ROOM
+        → IsSomeAnd result (λ new. bytes_of new ≡ entry_page (put (walk_cmp start) key.now value.now entries)) }
 {
     let end = u32::from(head.end);
     if end < slot.to {
         return None;
     }
-    let new_end = (slot.from + LENGTHS + (end - slot.to)) as usize + key.len() + value.len();
-    if new_end > 4096 {
+    let new_end = slot.from as usize
+        + CELL_HEAD
+        + (end - slot.to) as usize
+        + key.len()
+        + value.len();
+    if new_end > PAGE_SIZE {
         return None;
     }
     let cells = match slot.value {

@@ -1,6 +1,7 @@
+//! A map is used through the trait of its pages, as here.
 ghost use Rattle.std.specs.Prelude.{◌≡◌, ◌<◌, true, OnOk};
 
-use crate::{cells_by_sums, create, find, hash, insert, sums_of_insert};
+use crate::{cells_by_sums, create, find, fits, hash, insert, sums_of_insert};
 use std::alloc::Global;
 use std::test::Fail;
 use uq_page::{ChainFault, Header, MemPages, Page, Pages};
@@ -17,7 +18,7 @@ fn put<P: Pages>(
     ensures sound { OnOk result (P.is_sound p.new ≡ true) }
     ensures size { P.size p.new ≡ P.size p.old }
 {
-    if key.is_empty() || key.len() > 100 || value.len() > 100 || h.entries > 100 || h.bytes > 1000 {
+    if key.is_empty() || key.len() > 3001 || value.len() > 255 || h.entries > 100 || h.bytes > 200 {
         return Err(ChainFault::NoPage);
     }
     cells_by_sums();
@@ -60,17 +61,32 @@ fn has<P: Pages>(
     })
 }
 
+/// Whether a key of 557 bytes fits with this value, and whether one of 558 does.
+fn room<P: Pages>(p: &mut P, h: &Header, value: &[u8; 255]) -> Result<[bool; 2], ChainFault>
+    requires { P.is_sound p.old ≡ true }
+{
+    let key = [b'L'; 558];
+    let less = fits(p, h, &key[1..], value)?;
+    Ok([less, fits(p, h, &key, value)?])
+}
+
 #[test]
 fn the_hash_is_fnv_1a_of_32_bits(rt: HostRuntime) {
-    for (text, want) in [
-        ("", 0x811c9dc5),
-        ("a", 0xe40c292c),
-        ("foobar", 0xbf9cf968),
-        ("Ka", 0x47eee3f1),
-        ("Kb", 0x44eedf38),
-        ("Kc", 0x45eee0cb),
+    let basis = 0x811c9dc5;
+    for (start, text, want) in [
+        (basis, "", 0x811c9dc5),
+        (basis, "a", 0xe40c292c),
+        (basis, "foobar", 0xbf9cf968),
+        (basis, "Ka", 0x47eee3f1),
+        (basis, "Kb", 0x44eedf38),
+        (basis, "Kc", 0x45eee0cb),
+        (basis ^ 1, "Ka", 0x6bf15b34),
     ] {
-        assert_eq!(rt; hash(text.as_bytes()), want, "the hash of {text}");
+        assert_eq!(rt;
+            hash(start, text.as_bytes()),
+            want,
+            "the hash of {text} from {start}"
+        );
     }
 }
 
@@ -84,6 +100,21 @@ fn keys_are_found_with_the_value_that_was_put_last(rt: HostRuntime) -> Result<()
     assert!(rt; has(rt.alloc(), &mut pages, &header, b"Kb", Some(b"22"))?);
     assert!(rt; has(rt.alloc(), &mut pages, &header, b"Kc", Some(b""))?);
     assert!(rt; has(rt.alloc(), &mut pages, &header, b"Kd", None)?);
+    Ok(())
+}
+
+#[test]
+fn the_longest_key_and_value_leave_room_for_818_bytes(rt: HostRuntime) -> Result<(), Fail> {
+    let mut pages = MemPages::new(rt.alloc(), &[])?;
+    let mut header = create(&mut pages)?;
+    let (key, value) = ([b'K'; 3001], [7; 255]);
+    assert_eq!(rt;
+        put(rt.alloc(), &mut pages, &mut header, &key, &value),
+        Ok(false)
+    );
+    assert!(rt; has(rt.alloc(), &mut pages, &header, &key, Some(&value))?);
+    assert!(rt; has(rt.alloc(), &mut pages, &header, &key[1..], None)?);
+    assert_eq!(rt; room(&mut pages, &header, &value), Ok([true, false]));
     Ok(())
 }
 

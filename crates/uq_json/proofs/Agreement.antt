@@ -2,7 +2,7 @@
 use Rattle.std.proofs.Common.{◌≡◌, ℕ, zero, suc, ◌+◌, ◌≤◌, ◌-◌, Bool, true, false, cond, eqb, ◌⊎◌, inl, inr, List, [], ◌∷◌, length, drop, Ok, Err, refl, ap, ◌∙◌, arith}
 use Rattle.uq_value.specs.Data.{Bytes, Data, list, object}
 use Rattle.uq_json.specs.Grammar.{merged}
-use Rattle.uq_json.specs.Reading.{Read, ◌>>=◌, is_next, skip_blanks, padded, behind, string_at, scalar_at, others_at, listed_within, bracketed_at, member_at, list_at, object_at, value_at, too_deep, element_at}
+use Rattle.uq_json.specs.Internal.Reading.{Read, ◌>>=◌, is_next, skip_blanks, padded, behind, string_at, scalar_at, others_at, listed_within, bracketed_at, member_at, list_at, object_at, value_at, too_deep, element_at}
 use Rattle.uq_json.specs.declared.error.JsonFault.TheVariants.{NotJson, TooDeep}
 
 abbrev pub Agree : {A : Type 0} → Read A → Read A → Type 0

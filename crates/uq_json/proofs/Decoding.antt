@@ -3,8 +3,8 @@ use Rattle.std.proofs.Common.{◌≡◌, ℕ, zero, suc, ◌<◌, ◌≤◌, ◌
 use Rattle.std.proofs.lemmas.Bool.{eqb-false}
 use Rattle.uq_value.specs.Data.{Bytes}
 use Rattle.uq_json.specs.Strings.{Piece, code, are_hex, hex_number}
-use Rattle.uq_json.specs.Decoding.{bytes_behind, waiting_bytes, decoded}
-use Rattle.uq_json.specs.Reading.{Read, ◌>>=◌, Fails, is_next, unicode_at, piece_at, pieces_within}
+use Rattle.uq_json.specs.Internal.Decoding.{bytes_behind, waiting_bytes, decoded}
+use Rattle.uq_json.specs.Internal.Reading.{Read, ◌>>=◌, Fails, is_next, unicode_at, piece_at, pieces_within}
 use Rattle.uq_json.specs.declared.error.JsonFault.{JsonFault}
 use Rattle.uq_json.specs.declared.error.JsonFault.TheVariants as fault
 use Rattle.uq_json.proofs.Steps.{if_true, if_false, no_ok}

@@ -5,7 +5,7 @@ use Rattle.std.specs.List.{list_all}
 use Rattle.std.proofs.lemmas.Bool.Decides.{nat_tests}
 use Rattle.uq_value.specs.Data.{Bytes}
 use Rattle.uq_json.specs.Grammar.{Language, is_blank, AreBlanks}
-use Rattle.uq_json.specs.Reading.{is_next, skip_blanks}
+use Rattle.uq_json.specs.Internal.Reading.{is_next, skip_blanks}
 use Rattle.uq_json.proofs.Steps.{if_true, if_false}
 use Rattle.uq_json.proofs.Scalars.{NoDigit, digit_no}
 

@@ -2,9 +2,9 @@
 use Rattle.std.proofs.Common.{◌≡◌, ◌≢◌, ℕ, false, eqb, ◌⊎◌, inl, inr, [], ◌∷◌, ◌++◌, Ok, Err, refl, sym, ap, subst, ◌∙◌, append_assoc, arith}
 use Rattle.std.proofs.lemmas.Bool.{eqb-true, ne_eqb}
 use Rattle.uq_value.specs.Data.{Bytes, Data, null}
-use Rattle.uq_json.specs.Grammar.{Language, is_blank, Padded, IsMember}
+use Rattle.uq_json.specs.Grammar.{Language, is_blank, Padded, IsJsonMember}
 use Rattle.uq_json.specs.Strings.{IsString}
-use Rattle.uq_json.specs.Reading.{Read, ◌>>=◌, is_next, skip_blanks, padded, behind, string_at, member_at}
+use Rattle.uq_json.specs.Internal.Reading.{Read, ◌>>=◌, is_next, skip_blanks, padded, behind, string_at, member_at}
 use Rattle.uq_json.specs.declared.error.JsonFault.TheVariants.{NotJson, TooDeep}
 use Rattle.uq_json.proofs.Steps.{bind_ok, bind_err, chosen, Takes, no_ok}
 use Rattle.uq_json.proofs.Faults.{IsShallow, string_shallow, behind_shallow, then_shallow, ok_shallow}
@@ -116,7 +116,7 @@ name_again w bs rest is = padded_again IsString string_at IsQuote string_begins 
 name_shallow : (ts : Bytes) → IsShallow (padded string_at ts)
 name_shallow ts = then_shallow (string_at (skip_blanks ts)) (λ x. Ok (x.0, skip_blanks x.1)) (string_shallow (skip_blanks ts)) (λ x. ok_shallow (x.0, skip_blanks x.1))
 
-pub member_apart : (L : Language Data) (w : Bytes) (m : Bytes × Data) (rest : Bytes) → IsMember L w m → is_next 0x7d (skip_blanks (w ++ rest)) ≡ false
+pub member_apart : (L : Language Data) (w : Bytes) (m : Bytes × Data) (rest : Bytes) → IsJsonMember L w m → is_next 0x7d (skip_blanks (w ++ rest)) ≡ false
 member_apart L w m rest is =
     ap (λ (v : Bytes). is_next 0x7d (skip_blanks v)) (ap (λ (v : Bytes). v ++ rest) is.parts ∙ append_assoc is.name (0x3a ∷ is.rest) rest)
     ∙ padded_apart IsString IsQuote string_begins 0x7d (λ d e. omega (arith, e)) is.name m.0 (0x3a ∷ (is.rest ++ rest)) is.is_name
@@ -127,7 +127,7 @@ with_value r name ts = r ts >>= λ d. Ok ((name, d.0), d.1)
 module _ (L : Language Data) (r : Bytes → Read Data)
     (takes : (ts : Bytes) (x : Data × Bytes) → r ts ≡ Ok x → Takes L ts x)
     (again : (w : Bytes) (d : Data) (rest : Bytes) → L w d → Ends rest → r (w ++ rest) ≡ Ok (d, rest)) where
-  pub member_take : (ts : Bytes) (x : (Bytes × Data) × Bytes) → member_at r ts ≡ Ok x → Takes (IsMember L) ts x
+  pub member_take : (ts : Bytes) (x : (Bytes × Data) × Bytes) → member_at r ts ≡ Ok x → Takes (IsJsonMember L) ts x
   member_take ts x e =
       let first = bind_ok (padded string_at ts) (λ name. behind 0x3a name.1 >>= λ y. r y.1 >>= λ d. Ok ((name.0, d.0), d.1)) x e in
       let name = first.0 in
@@ -144,7 +144,7 @@ module _ (L : Language Data) (r : Bytes → Read Data)
       record {
         used = named.used ++ 0x3a ∷ value.used;
         split = named.split ∙ ap (λ (w : Bytes). named.used ++ w) (behind_is 0x3a name.1 y second.1 ∙ ap (λ (w : Bytes). 0x3a ∷ w) (value.split ∙ ap (λ (w : Bytes). value.used ++ w) rest)) ∙ sym (append_assoc named.used (0x3a ∷ value.used) x.1);
-        reads = subst (λ (n : Bytes × Data). IsMember L (named.used ++ 0x3a ∷ value.used) n) same (record { name = named.used; rest = value.used; parts = refl; is_name = named.reads; is_value = value.reads });
+        reads = subst (λ (n : Bytes × Data). IsJsonMember L (named.used ++ 0x3a ∷ value.used) n) same (record { name = named.used; rest = value.used; parts = refl; is_name = named.reads; is_value = value.reads });
       }
     where
       member_of : Read (Bytes × Data) → Bytes × Data
@@ -155,7 +155,7 @@ module _ (L : Language Data) (r : Bytes → Read Data)
       rest_of (Ok z) = z.1
       rest_of (Err w) = []
 
-  pub member_again : (w : Bytes) (m : Bytes × Data) (rest : Bytes) → IsMember L w m → Ends rest → member_at r (w ++ rest) ≡ Ok (m, rest)
+  pub member_again : (w : Bytes) (m : Bytes × Data) (rest : Bytes) → IsJsonMember L w m → Ends rest → member_at r (w ++ rest) ≡ Ok (m, rest)
   member_again w m rest is end =
       ap (member_at r) (ap (λ (v : Bytes). v ++ rest) is.parts ∙ append_assoc is.name (0x3a ∷ is.rest) rest)
       ∙ ap (λ (q : Read Bytes). q >>= λ name. behind 0x3a name.1 >>= λ y. r y.1 >>= λ d. Ok ((name.0, d.0), d.1)) (name_again is.name m.0 (is.rest ++ rest) is.is_name)
@@ -163,10 +163,10 @@ module _ (L : Language Data) (r : Bytes → Read Data)
 
   module _ (more : Language Data) (wider : (w : Bytes) (d : Data) → L w d → more w d)
       (deep : (ts : Bytes) → r ts ≡ Err TooDeep → Deep L more (λ seen opening. (x : Bytes) → r (seen ++ opening ∷ x) ≡ Err TooDeep) ts) where
-    pub member_deep : (ts : Bytes) → member_at r ts ≡ Err TooDeep → Deep (IsMember L) (IsMember more) (λ seen opening. (x : Bytes) → member_at r (seen ++ opening ∷ x) ≡ Err TooDeep) ts
+    pub member_deep : (ts : Bytes) → member_at r ts ≡ Err TooDeep → Deep (IsJsonMember L) (IsJsonMember more) (λ seen opening. (x : Bytes) → member_at r (seen ++ opening ∷ x) ≡ Err TooDeep) ts
     member_deep ts e = by_name (bind_err (padded string_at ts) (λ name. behind 0x3a name.1 >>= λ y. r y.1 >>= λ d. Ok ((name.0, d.0), d.1)) TooDeep e)
       where
-        found : (name : Bytes × Bytes) (y : Unit {0} × Bytes) → padded string_at ts ≡ Ok name → behind 0x3a name.1 ≡ Ok y → r y.1 ≡ Err TooDeep → Deep (IsMember L) (IsMember more) (λ seen opening. (x : Bytes) → member_at r (seen ++ opening ∷ x) ≡ Err TooDeep) ts
+        found : (name : Bytes × Bytes) (y : Unit {0} × Bytes) → padded string_at ts ≡ Ok name → behind 0x3a name.1 ≡ Ok y → r y.1 ≡ Err TooDeep → Deep (IsJsonMember L) (IsJsonMember more) (λ seen opening. (x : Bytes) → member_at r (seen ++ opening ∷ x) ≡ Err TooDeep) ts
         found name y is colon stops =
             let named = padded_take IsString string_at string_takes ts name is in
             let d = deep y.1 stops in
@@ -186,19 +186,19 @@ module _ (L : Language Data) (r : Bytes → Read Data)
             }
 
         by_value : (name : Bytes × Bytes) (y : Unit {0} × Bytes) → padded string_at ts ≡ Ok name → behind 0x3a name.1 ≡ Ok y → (r y.1 ≡ Err TooDeep) ⊎ ((d : Data × Bytes) × (r y.1 ≡ Ok d) × (◌≡◌ {A = Read (Bytes × Data)} (Ok ((name.0, d.0), d.1)) (Err TooDeep)))
-            → Deep (IsMember L) (IsMember more) (λ seen opening. (x : Bytes) → member_at r (seen ++ opening ∷ x) ≡ Err TooDeep) ts
+            → Deep (IsJsonMember L) (IsJsonMember more) (λ seen opening. (x : Bytes) → member_at r (seen ++ opening ∷ x) ≡ Err TooDeep) ts
         by_value name y is colon (inl stops) = found name y is colon stops
         by_value name y is colon (inr (d, reads, no')) = absurd (ok_shallow {A = Bytes × Data} ((name.0, d.0), d.1) no')
 
         by_colon : (name : Bytes × Bytes) → padded string_at ts ≡ Ok name → (behind 0x3a name.1 ≡ Err TooDeep) ⊎ ((y : Unit {0} × Bytes) × (behind 0x3a name.1 ≡ Ok y) × (with_value r name.0 y.1 ≡ Err TooDeep))
-            → Deep (IsMember L) (IsMember more) (λ seen opening. (x : Bytes) → member_at r (seen ++ opening ∷ x) ≡ Err TooDeep) ts
+            → Deep (IsJsonMember L) (IsJsonMember more) (λ seen opening. (x : Bytes) → member_at r (seen ++ opening ∷ x) ≡ Err TooDeep) ts
         by_colon name is (inl no') = absurd (behind_shallow 0x3a name.1 no')
         by_colon name is (inr (y, colon, rest)) = by_value name y is colon (bind_err (r y.1) (λ d. Ok ((name.0, d.0), d.1)) TooDeep rest)
 
         by_name : (padded string_at ts ≡ Err TooDeep) ⊎ ((name : Bytes × Bytes) × (padded string_at ts ≡ Ok name) × ((behind 0x3a name.1 >>= λ y. with_value r name.0 y.1) ≡ Err TooDeep))
-            → Deep (IsMember L) (IsMember more) (λ seen opening. (x : Bytes) → member_at r (seen ++ opening ∷ x) ≡ Err TooDeep) ts
+            → Deep (IsJsonMember L) (IsJsonMember more) (λ seen opening. (x : Bytes) → member_at r (seen ++ opening ∷ x) ≡ Err TooDeep) ts
         by_name (inl no') = absurd (name_shallow ts no')
         by_name (inr (name, is, rest)) = by_colon name is (bind_err (behind 0x3a name.1) (λ y. with_value r name.0 y.1) TooDeep rest)
 
-pub member_wider : (L more : Language Data) → ((w : Bytes) (d : Data) → L w d → more w d) → (w : Bytes) (m : Bytes × Data) → IsMember L w m → IsMember more w m
+pub member_wider : (L more : Language Data) → ((w : Bytes) (d : Data) → L w d → more w d) → (w : Bytes) (m : Bytes × Data) → IsJsonMember L w m → IsJsonMember more w m
 member_wider L more wider w m is = record { name = is.name; rest = is.rest; parts = is.parts; is_name = is.is_name; is_value = wider is.rest m.1 is.is_value }

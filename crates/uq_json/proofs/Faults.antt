@@ -1,8 +1,8 @@
 -- Numbers, strings and literals open no level.
 use Rattle.std.proofs.Common.{◌≡◌, ℕ, zero, suc, Bool, true, false, cond, eqb, leb, [], ◌∷◌, Option, Some, None, Ok, Err, ℤ, codes}
-use Rattle.uq_value.specs.Data.{Bytes, Data, null, boolean, whole, text}
+use Rattle.uq_value.specs.Data.{Bytes, Data, null, bool, int, text}
 use Rattle.uq_json.specs.Strings.{byte, code, letter, are_hex, hex_number, bytes_of}
-use Rattle.uq_json.specs.Reading.{Read, ◌>>=◌, literal, number_or_fault, number_at, natural, digits_of, behind_digits, letter_or_fault, unicode_at, escape_at, piece_at, pieces_within, inside_at, string_at, behind, scalar_at}
+use Rattle.uq_json.specs.Internal.Reading.{Read, ◌>>=◌, literal, number_or_fault, number_at, natural, digits_of, behind_digits, letter_or_fault, unicode_at, escape_at, piece_at, pieces_within, inside_at, string_at, behind, scalar_at}
 use Rattle.uq_value.specs.Number.{positive, negative}
 use Rattle.uq_json.specs.declared.error.JsonFault.TheVariants.{NotJson, TooDeep}
 
@@ -82,9 +82,9 @@ pub scalar_shallow : (ts : Bytes) → IsShallow (scalar_at ts)
 scalar_shallow [] = no_json_shallow
 scalar_shallow (c ∷ cs) =
     let strings : Read Data = inside_at cs >>= λ x. Ok (text x.0, x.1) in
-    let numbers : Read Data = number_at (c ∷ cs) >>= λ x. Ok (whole x.0, x.1) in
+    let numbers : Read Data = number_at (c ∷ cs) >>= λ x. Ok (int x.0, x.1) in
     cond_shallow (eqb c 0x22) strings _ (then_shallow (inside_at cs) (λ x. Ok (text x.0, x.1)) (inside_shallow cs) (λ x. ok_shallow (text x.0, x.1)))
     (cond_shallow (eqb c 0x6e) (literal (codes "null") null (c ∷ cs)) _ (literal_shallow (codes "null") null (c ∷ cs))
-    (cond_shallow (eqb c 0x74) (literal (codes "true") (boolean true) (c ∷ cs)) _ (literal_shallow (codes "true") (boolean true) (c ∷ cs))
-    (cond_shallow (eqb c 0x66) (literal (codes "false") (boolean false) (c ∷ cs)) numbers (literal_shallow (codes "false") (boolean false) (c ∷ cs))
-    (then_shallow (number_at (c ∷ cs)) (λ x. Ok (whole x.0, x.1)) (number_shallow (c ∷ cs)) (λ x. ok_shallow (whole x.0, x.1))))))
+    (cond_shallow (eqb c 0x74) (literal (codes "true") (bool true) (c ∷ cs)) _ (literal_shallow (codes "true") (bool true) (c ∷ cs))
+    (cond_shallow (eqb c 0x66) (literal (codes "false") (bool false) (c ∷ cs)) numbers (literal_shallow (codes "false") (bool false) (c ∷ cs))
+    (then_shallow (number_at (c ∷ cs)) (λ x. Ok (int x.0, x.1)) (number_shallow (c ∷ cs)) (λ x. ok_shallow (int x.0, x.1))))))

@@ -1,29 +1,30 @@
 -- Gathering the items of a list.
-use Rattle.std.proofs.Common.{◌≡◌, ℕ, zero, suc, ◌<◌, ◌≤◌, ◌+◌, ◌/◌, max, Bool, true, false, cond, eqb, ltb, ◌⊎◌, inl, inr, List, [], ◌∷◌, ◌++◌, length, take, drop, nat_eq, ◌-◌, Option, Some, None, option_map, Ok, Err, refl, sym, ap, subst, ◌∙◌, append_assoc, length-append, length-drop, ◌&&◌, arith}
-use Rattle.std.proofs.lemmas.Bool.{eqb-true, eq-eqb, ltb-true, lt-ltb}
-use Rattle.uq_value.specs.Data.{Bytes, Data, Datas, Pairs, text, items_of, list_of, members_of, list, object}
-use Rattle.uq_value.specs.Size.{leb_within, leb_size, data_size, items_size, most_size, text_size}
+use Rattle.std.proofs.Common.{◌≡◌, ℕ, zero, suc, ◌<◌, ◌≤◌, ◌+◌, max, Bool, true, false, cond, eqb, ◌⊎◌, inl, inr, List, [], ◌∷◌, ◌++◌, length, take, drop, nat_eq, ◌-◌, Option, Some, None, Ok, Err, refl, sym, ap, subst, ◌∙◌, append_assoc, length-drop, ◌&&◌, arith}
+use Rattle.std.proofs.lemmas.Bool.{eqb-true, eq-eqb}
+use Rattle.uq_value.specs.Data.{Bytes, Data, Datas, Pairs, text, items_of, members_of, list, object}
+use Rattle.uq_value.specs.Size.{data_size, most_size}
 use Rattle.uq_value.specs.Depth.{data_depth, items_depth, members_depth, most_depth}
 use Rattle.uq_value.specs.Plain.{plain, size, depth}
 use Rattle.uq_value.specs.Put.{limited, with_member}
-use Rattle.uq_value.specs.Faults.{Refuses}
-use Rattle.uq_value.specs.Slots.{Slots, Stands, KeptAs, Sets}
+use Rattle.uq_value.specs.Faults.{Refuses, TextFault}
+use Rattle.uq_value.specs.Laws.Growth.{list-grows, items-depth-push}
+use Rattle.uq_value.specs.Laws.Limits.{limited-ok, limited-refuses}
+use Rattle.uq_json.specs.Internal.LeftOut.{StandFor, Stands}
+use Rattle.uq_json.specs.declared.members.Members.{Members}
 use Rattle.uq_value.specs.declared.value.Value.{Value}
-use Rattle.uq_value.specs.declared.value.Value.TheVariants.{List as List'}
 use Rattle.uq_value.specs.declared.error.ValueFault.{ValueFault}
 use Rattle.uq_value.specs.declared.error.ValueFault.TheVariants as value
-use Rattle.uq_json.specs.Grammar.{Language, Listed, none, some, IsMember, merged, merged_behind, IsScalar, of_null, of_true, of_false, of_number, of_string, IsValue, of_scalar, of_list, of_object, Spells}
-use Rattle.uq_json.specs.Found.{StandsFor, ListStandsFor, SlotsStandFor}
+use Rattle.uq_json.specs.Grammar.{Language, Listed, none, some, IsJsonMember, merged, merged_behind, IsScalar, of_null, of_true, of_false, of_number, of_string, IsJsonValue, of_scalar, of_list, of_object, JsonSpells}
+use Rattle.uq_json.specs.Internal.Found.{StandsFor, ListStandsFor, MembersStandFor}
 use Rattle.std.specs.List.{starts_with}
 use lib.Pointwise.{pointwise}
 use Rattle.std.specs.Option.{IfSome}
 use Rattle.std.proofs.Math.Seq.{take-length}
 use Rattle.uq_json.proofs.Decoding.{tail_whole}
-use Rattle.uq_json.specs.Reading.{Read, ◌>>=◌, Fails, is_next, skip_blanks, padded, inside_at, string_at, string_data_at, scalar_at, behind, bracketed_at, member_at, list_at, object_at, value_within, literal, separator_at, others_at, listed_within, element_at}
+use Rattle.uq_json.specs.Internal.Reading.{Read, ◌>>=◌, Fails, is_next, skip_blanks, padded, inside_at, string_at, string_data_at, scalar_at, behind, bracketed_at, member_at, list_at, object_at, value_within, literal, separator_at, others_at, listed_within, element_at}
 use Rattle.uq_json.specs.declared.error.JsonFault.{JsonFault}
 use Rattle.uq_json.specs.declared.error.JsonFault.TheVariants as fault
 use Rattle.uq_json.proofs.Steps.{if_true, if_false, Takes, no_longer}
-use Rattle.uq_json.proofs.Parts.{list_and_back}
 use Rattle.uq_json.proofs.Elements.{with_value, member_take}
 use Rattle.uq_json.proofs.Rooms.{known, object_takes, element_takes}
 
@@ -64,7 +65,7 @@ merged_depth k before (m ∷ ms) h g =
     let one = with_member_depth m.0 m.1 before in
     merged_depth k (with_member m.0 m.1 before) ms (omega (arith, one, h, g)) (omega (arith, g))
 
-member_levels : (L : Language Data) (k close : ℕ) → ((w : Bytes) (d : Data) → L w d → data_depth d ≤ k) → (w : Bytes) (ms : Pairs) → Listed (IsMember L) close w ms → pairs_depth ms ≤ k
+member_levels : (L : Language Data) (k close : ℕ) → ((w : Bytes) (d : Data) → L w d → data_depth d ≤ k) → (w : Bytes) (ms : Pairs) → Listed (IsJsonMember L) close w ms → pairs_depth ms ≤ k
 unfolding pairs_depth
 member_levels L k close each w [] is = omega arith
 member_levels L k close each w (m ∷ ms) (front, back, parts, first, inl (closed, nothing)) =
@@ -74,7 +75,7 @@ member_levels L k close each w (m ∷ ms) (front, back, parts, first, inr (tail,
     let here = each first.rest m.1 first.is_value in
     let others = member_levels L k close each tail ms rest in omega (arith, here, others)
 
-value_levels : (L : Language Data) (k : ℕ) → ((w : Bytes) (d : Data) → L w d → data_depth d ≤ k) → (w : Bytes) (d : Data) → IsValue L w d → data_depth d ≤ suc k
+value_levels : (L : Language Data) (k : ℕ) → ((w : Bytes) (d : Data) → L w d → data_depth d ≤ k) → (w : Bytes) (d : Data) → IsJsonValue L w d → data_depth d ≤ suc k
 unfolding pairs_depth
 value_levels L k each w d (of_scalar is) = let flat = scalar_flat w d is in omega (arith, flat)
 value_levels L k each w d (of_list ds (none blanks is are nothing) value') = let deep : data_depth d ≡ 1 = ap data_depth value' ∙ ap (λ (es : Datas). data_depth (list es)) nothing in omega (arith, deep)
@@ -86,128 +87,31 @@ value_levels L k each w d (of_object ms (some body is listed) value') =
     let deep : data_depth d ≡ 1 + members_depth (members_of (merged ms)) = ap data_depth value' in
     let within = merged_depth k [] ms (omega arith) (member_levels L k 0x7d each body ms listed) in omega (arith, deep, within)
 
-pub levels_deep : (k : ℕ) (w : Bytes) (d : Data) → Spells k w d → data_depth d ≤ k
-unfolding Spells
+pub levels_deep : (k : ℕ) (w : Bytes) (d : Data) → JsonSpells k w d → data_depth d ≤ k
+unfolding JsonSpells
 levels_deep zero w d is = let flat = scalar_flat is.middle d is.inside in omega (arith, flat)
-levels_deep (suc k) w d is = value_levels (Spells k) k (levels_deep k) is.middle d is.inside
+levels_deep (suc k) w d is = value_levels (JsonSpells k) k (levels_deep k) is.middle d is.inside
 
 pub read_deep : (k : ℕ) (ts rest : Bytes) (d : Data) → element_at k ts ≡ Ok (d, rest) → data_depth d ≤ k
 read_deep k ts rest d e = let taken = element_takes k ts (d, rest) e in levels_deep k taken.used d taken.reads
 
--- ---- sizes
-
-leb_grows : (k n m : ℕ) → n ≤ m → leb_within k n ≤ leb_within k m
-leb_grows zero n m h = omega arith
-leb_grows (suc k) n m h = by (ltb n 128) (ltb m 128) refl refl (leb_grows k (n / 128) (m / 128) (omega arith))
-  where
-    small : ltb m 128 ≡ true → ltb n 128 ≡ true
-    small e = let below = ltb-true m 128 e in lt-ltb n 128 (omega (arith, below, h))
-
-    by : (a b : Bool) → ltb n 128 ≡ a → ltb m 128 ≡ b → leb_within k (n / 128) ≤ leb_within k (m / 128) → cond a 1 (1 + leb_within k (n / 128)) ≤ cond b 1 (1 + leb_within k (m / 128))
-    by true true p q less = omega arith
-    by true false p q less = omega arith
-    by false true p q less = let clash : false ≡ true = sym p ∙ small q in absurd (cc)
-    by false false p q less = omega (arith, less)
-
-leb_size_grows : (n m : ℕ) → n ≤ m → leb_size n ≤ leb_size m
-unfolding leb_size
-leb_size_grows n m h = leb_grows 9 n m h
-
-items_more : (ds : Datas) (d : Data) → items_size (items_of (ds ++ d ∷ [])) ≡ items_size (items_of ds) + data_size d
-items_more [] d = omega arith
-items_more (e ∷ ds) d = let others = items_more ds d in omega (arith, others)
-
-counted : (ds : Datas) → length (list_of (items_of ds)) ≡ length ds
-counted ds = ap length (list_and_back ds)
-
--- a list with one item more is no smaller
-list_grows : (ds : Datas) (d : Data) → data_size (list ds) + data_size d ≤ data_size (list (ds ++ d ∷ []))
-list_grows ds d =
-    let lebs = leb_size_grows (length (list_of (items_of ds))) (length (list_of (items_of (ds ++ d ∷ [])))) (omega (arith, counted ds, counted (ds ++ d ∷ []), length-append ds (d ∷ []))) in
-    omega (arith, lebs, items_more ds d)
-
--- ---- one item more
-
--- which limit a value is above, if any
-data Limits (v : Value) : Type 0 where
-  deep : limited v ≡ Err value.TooDeep → most_depth < depth v → Limits v
-  large : limited v ≡ Err value.TooLarge → most_size < size v → Limits v
-  fits : limited v ≡ Ok v → depth v ≤ most_depth → Limits v
-
-not_below : (n m : ℕ) → ltb n m ≡ false → m ≤ n
-not_below n m e = grind arith
-
-limits : (v : Value) → Limits v
-limits v = by (ltb most_depth (depth v)) (ltb most_size (size v)) refl refl
-  where
-    by : (a b : Bool) → ltb most_depth (depth v) ≡ a → ltb most_size (size v) ≡ b → Limits v
-    by true b p q = deep (if_true (ltb most_depth (depth v)) (Err value.TooDeep) (cond (ltb most_size (size v)) (Err value.TooLarge) (Ok v)) p) (ltb-true most_depth (depth v) p)
-    by false true p q = large (if_false (ltb most_depth (depth v)) (Err value.TooDeep) (cond (ltb most_size (size v)) (Err value.TooLarge) (Ok v)) p ∙ if_true (ltb most_size (size v)) (Err value.TooLarge) (Ok v) q) (ltb-true most_size (size v) q)
-    by false false p q = fits (if_false (ltb most_depth (depth v)) (Err value.TooDeep) (cond (ltb most_size (size v)) (Err value.TooLarge) (Ok v)) p ∙ if_false (ltb most_size (size v)) (Err value.TooLarge) (Ok v) q) (not_below most_depth (depth v) p)
-
-same_err : (v : Value) (e f : ValueFault) → limited v ≡ Err e → limited v ≡ Err f → e ≡ f
-same_err v e f p q = let both : ◌≡◌ {A = Rattle.uq_value.specs.Put.Put Value} (Err e) (Err f) = sym p ∙ q in cc
-
-ok_no_err : (v w : Value) (e : ValueFault) → limited v ≡ Ok w → limited v ≡ Err e → ⊥
-ok_no_err v w e p q = let both : ◌≡◌ {A = Rattle.uq_value.specs.Put.Put Value} (Ok w) (Err e) = sym p ∙ q in absurd (cc)
-
--- a refusal for anything but memory is one for a limit
-pub refused_limit : (v : Value) (e : ValueFault) → Refuses (limited v) e → (e ≡ value.Memory) ⊎ ((most_depth < depth v) ⊎ (most_size < size v))
-refused_limit v value.Memory r = inl refl
-refused_limit v value.TooLarge r = inr (by (limits v))
-  where
-    by : Limits v → (most_depth < depth v) ⊎ (most_size < size v)
-    by (deep is above) = inl above
-    by (large is above) = inr above
-    by (fits is below) = absurd (ok_no_err v v value.TooLarge is r)
-refused_limit v value.TooDeep r = inr (by (limits v))
-  where
-    by : Limits v → (most_depth < depth v) ⊎ (most_size < size v)
-    by (deep is above) = inl above
-    by (large is above) = inr above
-    by (fits is below) = absurd (ok_no_err v v value.TooDeep is r)
-refused_limit v value.NotContainer r = absurd (by (limits v))
-  where
-    by : Limits v → ⊥
-    by (deep is above) = let e = same_err v value.TooDeep value.NotContainer is r in absurd (cc)
-    by (large is above) = let e = same_err v value.TooLarge value.NotContainer is r in absurd (cc)
-    by (fits is below) = ok_no_err v v value.NotContainer is r
-refused_limit v value.IndexRange r = absurd (by (limits v))
-  where
-    by : Limits v → ⊥
-    by (deep is above) = let e = same_err v value.TooDeep value.IndexRange is r in absurd (cc)
-    by (large is above) = let e = same_err v value.TooLarge value.IndexRange is r in absurd (cc)
-    by (fits is below) = ok_no_err v v value.IndexRange is r
-
-pub within_depth : (v w : Value) → limited v ≡ Ok w → depth v ≤ most_depth
-within_depth v w e = by (limits v)
-  where
-    by : Limits v → depth v ≤ most_depth
-    by (deep is above) = absurd (ok_no_err v w value.TooDeep e is)
-    by (large is above) = absurd (ok_no_err v w value.TooLarge e is)
-    by (fits is below) = below
-
 -- ---- one item more
 
 pub nothing_kept : (items : Option Datas) (one : Option Value) → (items ≡ None) ⊎ (one ≡ None) → (ds : Datas) (d : Data) → ListStandsFor items ds → StandsFor one d → ListStandsFor None (ds ++ d ∷ [])
-nothing_kept items one (inl e) ds d here there = let large' : most_size < data_size (list ds) = subst (λ (o : Option Datas). ListStandsFor o ds) e here in omega (arith, large', list_grows ds d)
-nothing_kept items one (inr e) ds d here there = let large' : most_size < data_size d = subst (λ (o : Option Value). StandsFor o d) e there in omega (arith, large', list_grows ds d)
+nothing_kept items one (inl e) ds d here there = let large' : most_size < data_size (list ds) = subst (λ (o : Option Datas). ListStandsFor o ds) e here in omega (arith, large', list-grows ds d)
+nothing_kept items one (inr e) ds d here there = let large' : most_size < data_size d = subst (λ (o : Option Value). StandsFor o d) e there in omega (arith, large', list-grows ds d)
 
-pub item_kept : (kept now : Datas) (v : Value) → now ≡ kept ++ plain v ∷ [] → limited (List' (kept ++ plain v ∷ [])) ≡ Ok (List' now) → (ds : Datas) (d : Data) → ListStandsFor (Some kept) ds → StandsFor (Some v) d → ListStandsFor (Some now) (ds ++ d ∷ [])
+pub item_kept : (kept now : Datas) (v : Value) → now ≡ kept ++ plain v ∷ [] → limited (Value.List (kept ++ plain v ∷ [])) ≡ Ok (Value.List now) → (ds : Datas) (d : Data) → ListStandsFor (Some kept) ds → StandsFor (Some v) d → ListStandsFor (Some now) (ds ++ d ∷ [])
 item_kept kept now v is fits' ds d here there =
-    let shallow = within_depth (List' (kept ++ plain v ∷ [])) (List' now) fits' in
-    (is ∙ ap (λ (es : Datas). es ++ plain v ∷ []) here.0 ∙ ap (λ (e : Data). ds ++ e ∷ []) there, subst (λ (es : Datas). data_depth (list es) ≤ most_depth) (sym is) shallow)
+    let allowed = limited-ok (Value.List (kept ++ plain v ∷ [])) (Value.List now) fits' in
+    (is ∙ ap (λ (es : Datas). es ++ plain v ∷ []) here.0 ∙ ap (λ (e : Data). ds ++ e ∷ []) there, subst (λ (es : Datas). data_depth (list es) ≤ most_depth) (sym is) allowed.shallow)
 
-items_deep : (kept : Datas) (d : Data) → items_depth (items_of (kept ++ d ∷ [])) ≤ max (items_depth (items_of kept)) (data_depth d)
-items_deep [] d = omega arith
-items_deep (e ∷ kept) d = let others = items_deep kept d in omega (arith, others)
-
-pub item_refused : (kept : Datas) (v : Value) (e : ValueFault) → Refuses (limited (List' (kept ++ plain v ∷ []))) e → (e ≡ value.Memory → ⊥) → depth v < most_depth → (ds : Datas) (d : Data) → ListStandsFor (Some kept) ds → StandsFor (Some v) d → ListStandsFor None (ds ++ d ∷ [])
-item_refused kept v e refused other shallow ds d here there = by (refused_limit (List' (kept ++ plain v ∷ [])) e refused)
+pub item_refused : (kept : Datas) (v : Value) (e : ValueFault) → Refuses (limited (Value.List (kept ++ plain v ∷ []))) e → (e ≡ value.Memory → ⊥) → depth v < most_depth → (ds : Datas) (d : Data) → ListStandsFor (Some kept) ds → StandsFor (Some v) d → ListStandsFor None (ds ++ d ∷ [])
+item_refused kept v e refused other shallow ds d here there = by (limited-refuses (Value.List (kept ++ plain v ∷ [])) e refused)
   where
-    by : (e ≡ value.Memory) ⊎ ((most_depth < depth (List' (kept ++ plain v ∷ []))) ⊎ (most_size < size (List' (kept ++ plain v ∷ [])))) → most_size < data_size (list (ds ++ d ∷ []))
+    by : (e ≡ value.Memory) ⊎ ((most_depth < depth (Value.List (kept ++ plain v ∷ []))) ⊎ (most_size < size (Value.List (kept ++ plain v ∷ [])))) → most_size < data_size (list (ds ++ d ∷ []))
     by (inl is) = absurd (other is)
-    by (inr (inl above)) = let below = here.1 in absurd (omega (arith, above, below, shallow, items_deep kept (plain v)))
+    by (inr (inl above)) = let below = here.1 in absurd (omega (arith, above, below, shallow, items-depth-push kept (plain v)))
     by (inr (inr above)) =
         let same : kept ++ plain v ∷ [] ≡ ds ++ d ∷ [] = ap (λ (es : Datas). es ++ plain v ∷ []) here.0 ∙ ap (λ (e : Data). ds ++ e ∷ []) there in
         subst (λ (es : Datas). most_size < data_size (list es)) same above
@@ -331,12 +235,12 @@ literal_refused = literal_not_there
 pub text_kept : (ts rest bs : Bytes) (t : Bytes) → inside_at ts ≡ Ok (bs, rest) → t ≡ bs → (d : Data) × (string_data_at ts ≡ Ok (d, rest)) × (text t ≡ d)
 text_kept ts rest bs t e same = (text bs, ap (λ (q : Read Bytes). q >>= λ x. Ok (text x.0, x.1)) e, ap text same)
 
-pub text_left_out : (ts rest bs : Bytes) → inside_at ts ≡ Ok (bs, rest) → (text_size bs ≤ most_size → false ≡ true) → (d : Data) × (string_data_at ts ≡ Ok (d, rest)) × (most_size < data_size d)
-text_left_out ts rest bs e fits' = (text bs, ap (λ (q : Read Bytes). q >>= λ x. Ok (text x.0, x.1)) e, by (ltb most_size (text_size bs)) refl)
-  where
-    by : (b : Bool) → ltb most_size (text_size bs) ≡ b → most_size < data_size (text bs)
-    by true is = ltb-true most_size (text_size bs) is
-    by false is = let clash = fits' (not_below most_size (text_size bs) is) in absurd (cc)
+pub text_left_out : (ts rest bs : Bytes) (e : ValueFault) → inside_at ts ≡ Ok (bs, rest) → TextFault bs e → (e ≡ value.Memory → ⊥) → (d : Data) × (string_data_at ts ≡ Ok (d, rest)) × (most_size < data_size d)
+text_left_out ts rest bs value.Memory e fault other = absurd (other refl)
+text_left_out ts rest bs value.TooLarge e fault other = (text bs, ap (λ (q : Read Bytes). q >>= λ x. Ok (text x.0, x.1)) e, fault)
+text_left_out ts rest bs value.TooDeep e fault other = absurd fault
+text_left_out ts rest bs value.NotContainer e fault other = absurd fault
+text_left_out ts rest bs value.IndexRange e fault other = absurd fault
 
 -- ---- a value with blanks, and a level more
 
@@ -391,7 +295,7 @@ object_next (suc k) (c ∷ cs) h f e =
     less k = omega arith
 
 pub element_no_longer : (room : ℕ) (ts rest : Bytes) (d : Data) → element_at room ts ≡ Ok (d, rest) → length rest ≤ length ts
-element_no_longer room ts rest d e = no_longer (Spells room) ts (d, rest) (element_takes room ts (d, rest) e)
+element_no_longer room ts rest d e = no_longer (JsonSpells room) ts (d, rest) (element_takes room ts (d, rest) e)
 
 pub shallow_found : (room : ℕ) (ts rest : Bytes) (one : Option Value) → room < most_depth → (d : Data) × (element_at room ts ≡ Ok (d, rest)) × StandsFor one d → IfSome one (λ v. depth v < most_depth)
 shallow_found room ts rest None h found = tt
@@ -409,11 +313,11 @@ list_found r ts inner rest items one skips next whole (ds, e, stands) =
 
 -- ---- members
 
-member_is : (room : ℕ) (ts rest : Bytes) (m : Bytes × Data) → member_at (element_at room) ts ≡ Ok (m, rest) → Takes (IsMember (Spells room)) ts (m, rest)
-member_is room ts rest m e = member_take (Spells room) (element_at room) (known room).takes (known room).again ts (m, rest) e
+member_is : (room : ℕ) (ts rest : Bytes) (m : Bytes × Data) → member_at (element_at room) ts ≡ Ok (m, rest) → Takes (IsJsonMember (JsonSpells room)) ts (m, rest)
+member_is room ts rest m e = member_take (JsonSpells room) (element_at room) (known room).takes (known room).again ts (m, rest) e
 
 pub member_no_longer : (room : ℕ) (ts rest : Bytes) (m : Bytes × Data) → member_at (element_at room) ts ≡ Ok (m, rest) → length rest ≤ length ts
-member_no_longer room ts rest m e = no_longer (IsMember (Spells room)) ts (m, rest) (member_is room ts rest m e)
+member_no_longer room ts rest m e = no_longer (IsJsonMember (JsonSpells room)) ts (m, rest) (member_is room ts rest m e)
 
 member_shallow : (room : ℕ) (ts rest : Bytes) (m : Bytes × Data) → room < most_depth → member_at (element_at room) ts ≡ Ok (m, rest) → data_depth m.1 < most_depth
 member_shallow room ts rest m h e = let taken = (member_is room ts rest m e).reads in let deep' = levels_deep room taken.rest m.1 taken.is_value in omega (arith, deep', h)
@@ -433,32 +337,28 @@ member_found r ts skipped named colon rest name one skips string then_skips next
     behind_colon (c ∷ cs) next e = ap (λ (q : Read (Unit {0})). q >>= λ x. with_value r name x.1) (if_true (eqb c 0x3a) (Ok (tt, cs)) (Err fault.NotJson) next)
         ∙ ap (with_value r name) (sym (tail_whole c cs)) ∙ ap (λ (q : Read Data). q >>= λ v. Ok ((name, v.0), v.1)) e
 
-pub kept_as : (one : Option Value) (d : Data) → StandsFor one d → data_depth d < most_depth → KeptAs (option_map plain one) d
-kept_as (Some v) d stands shallow = stands
-kept_as None d stands shallow = (stands, shallow)
-
 merged_more : (before ms : Pairs) (m : Bytes × Data) → merged_behind before (ms ++ m ∷ []) ≡ with_member m.0 m.1 (merged_behind before ms)
 merged_more before [] m = refl
 merged_more before (n ∷ ms) m = merged_more (with_member n.0 n.1 before) ms m
 
-pub no_slots : (slots : Slots) → slots ≡ [] → SlotsStandFor slots []
-no_slots slots e = subst (λ (s : Slots). SlotsStandFor s []) (sym e) tt
+pub no_members : (kept : Pairs) (marks : List Bool) → kept ≡ [] → marks ≡ [] → StandFor kept marks []
+no_members kept marks e f = subst (λ (ks : Pairs). StandFor ks marks []) (sym e) (subst (λ (bs : List Bool). StandFor [] bs []) (sym f) tt)
 
-pub slot_set : (room : ℕ) (ts rest : Bytes) (m : Bytes × Data) (old new : Slots) (name : Bytes) (one : Option Value) (is_new : Bool) → room < most_depth → member_at (element_at room) ts ≡ Ok (m, rest) → name ≡ m.0 → StandsFor one m.1
-    → Sets old new name (option_map plain one) is_new → (front : Pairs) → SlotsStandFor old front → SlotsStandFor new (front ++ m ∷ [])
-slot_set room ts rest m old new name one is_new h e named stands sets front here =
-    subst (Stands new) (ap (λ (n : Bytes). with_member n m.1 (merged front)) named ∙ sym (merged_more [] front m)) (sets.stands (merged front) m.1 here (kept_as one m.1 stands (member_shallow room ts rest m h e)))
+pub member_set : (room : ℕ) (ts rest : Bytes) (m : Bytes × Data) (old new : Members) (name : Bytes) (one : Option Value) → room < most_depth → member_at (element_at room) ts ≡ Ok (m, rest) → name ≡ m.0 → StandsFor one m.1
+    → ((ms : Pairs) (d : Data) → Stands old ms → StandsFor one d → data_depth d < most_depth → Stands new (with_member name d ms)) → (front : Pairs) → MembersStandFor old front → MembersStandFor new (front ++ m ∷ [])
+member_set room ts rest m old new name one h e named stands sets front here =
+    subst (Stands new) (ap (λ (n : Bytes). with_member n m.1 (merged front)) named ∙ sym (merged_more [] front m)) (sets (merged front) m.1 here stands (member_shallow room ts rest m h e))
 
 -- ---- objects
 
 object_shallow : (room : ℕ) (ts rest : Bytes) (d : Data) → room < most_depth → object_at (element_at room) ts ≡ Ok (d, rest) → data_depth d ≤ most_depth
 object_shallow room ts rest d h e =
-    let taken = object_takes (Spells room) (element_at room) (known room) ts (d, rest) e in
-    let deep' = value_levels (Spells room) room (levels_deep room) taken.used d taken.reads in omega (arith, deep', h)
+    let taken = object_takes (JsonSpells room) (element_at room) (known room) ts (d, rest) e in
+    let deep' = value_levels (JsonSpells room) room (levels_deep room) taken.used d taken.reads in omega (arith, deep', h)
 
-pub object_found : (room : ℕ) (ts inner rest : Bytes) (slots : Slots) (one : Option Value) → room < most_depth → inner ≡ skip_blanks ts → is_next 0x7d inner ≡ false
-    → ((ms : Pairs) → Stands slots ms → data_depth (object ms) ≤ most_depth → StandsFor one (object ms))
-    → (ms : Pairs) × (listed_within (member_at (element_at room)) 0x7d (suc (length ts)) ts ≡ Ok (ms, rest)) × SlotsStandFor slots ms → (d : Data) × (object_at (element_at room) ts ≡ Ok (d, rest)) × StandsFor one d
-object_found room ts inner rest slots one h skips next whole (ms, e, stands) =
+pub object_found : (room : ℕ) (ts inner rest : Bytes) (members : Members) (one : Option Value) → room < most_depth → inner ≡ skip_blanks ts → is_next 0x7d inner ≡ false
+    → ((ms : Pairs) → Stands members ms → data_depth (object ms) ≤ most_depth → StandsFor one (object ms))
+    → (ms : Pairs) × (listed_within (member_at (element_at room)) 0x7d (suc (length ts)) ts ≡ Ok (ms, rest)) × MembersStandFor members ms → (d : Data) × (object_at (element_at room) ts ≡ Ok (d, rest)) × StandsFor one d
+object_found room ts inner rest members one h skips next whole (ms, e, stands) =
     let read : object_at (element_at room) ts ≡ Ok (object (merged ms), rest) = ap (λ (q : Read Pairs). q >>= λ x. Ok (object (merged x.0), x.1)) (bracketed_open (member_at (element_at room)) 0x7d ts (ap (is_next 0x7d) (sym skips) ∙ next) ∙ e) in
     (object (merged ms), read, whole (merged ms) stands (object_shallow room ts rest (object (merged ms)) h read))

@@ -12,7 +12,9 @@ pub mod Elements
 pub mod Rooms
 pub mod Agreement
 pub mod Verdicts
-pub mod Decimals
+pub mod Naturals
+pub mod Keeping
+pub mod Backs
 pub mod Gathering
 pub mod Printed
 pub mod Verbatim

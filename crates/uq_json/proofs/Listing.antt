@@ -3,7 +3,7 @@ use Rattle.std.proofs.Common.{◌≡◌, ◌≢◌, ℕ, zero, suc, ◌<◌, ◌
 use Rattle.std.proofs.lemmas.Bool.{eqb-true, eq-eqb, ne_eqb}
 use Rattle.uq_value.specs.Data.{Bytes}
 use Rattle.uq_json.specs.Grammar.{Language, is_blank, Listed, Bracketed, none, some}
-use Rattle.uq_json.specs.Reading.{Read, ◌>>=◌, is_next, skip_blanks, others_at, listed_within, bracketed_at}
+use Rattle.uq_json.specs.Internal.Reading.{Read, ◌>>=◌, is_next, skip_blanks, others_at, listed_within, bracketed_at}
 use Rattle.uq_json.specs.declared.error.JsonFault.TheVariants.{NotJson, TooDeep}
 use Rattle.uq_json.proofs.Steps.{bind_ok, bind_err, chosen, if_true, if_false, Takes, no_ok}
 use Rattle.uq_json.proofs.Deep.{Deep, Ends, blanks_of, blanks_split, are_blanks, skip_past, skip_none, opening_not_blank, same_next}

@@ -3,7 +3,7 @@ use Rattle.std.proofs.Common.{◌≡◌, ◌≢◌, ℕ, zero, suc, ◌≤◌, B
 use Rattle.std.proofs.lemmas.Bool.{eqb-true, eqb-false, ne_eqb, leb-true, le-leb}
 use Rattle.uq_value.specs.Data.{Bytes}
 use Rattle.uq_json.specs.Strings.{Piece, byte, code, letter, are_hex, hex_number, IsPiece, itself, by_letter, by_number, Inside, bytes_of, IsString}
-use Rattle.uq_json.specs.Reading.{Read, ◌>>=◌, letter_or_fault, unicode_at, escape_at, piece_at, pieces_within, inside_at, string_at}
+use Rattle.uq_json.specs.Internal.Reading.{Read, ◌>>=◌, letter_or_fault, unicode_at, escape_at, piece_at, pieces_within, inside_at, string_at}
 use Rattle.uq_json.specs.declared.error.JsonFault.TheVariants.{NotJson}
 use Rattle.uq_json.proofs.Steps.{bind_ok, chosen, if_true, if_false, Takes, no_ok}
 

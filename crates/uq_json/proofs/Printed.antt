@@ -10,17 +10,17 @@ use Rattle.std.proofs.lemmas.Bool.Decides.{nat_tests}
 use Rattle.std.proofs.lemmas.Fmt.{decimal_is_IsNumeral, decimal_digit, first_decimal}
 use Rattle.std.proofs.lemmas.Slice.Eq.{bytes_eq-Decides}
 use Rattle.std.proofs.lemmas.Str.Parse.{digit_from_value}
-use Rattle.uq_value.specs.Data.{Bytes, Data, Datas, Pairs, Items, no_items, item, Members, no_members, member, null, boolean, whole, text, sequence, mapping, list_of, pairs_of, list, object, is_among, names_of, IsDistinct}
+use Rattle.uq_value.specs.Data.{Bytes, Data, Datas, Pairs, Items, no_items, item, Members, no_members, member, null, bool, int, text, sequence, mapping, list_of, pairs_of, list, object, is_among, names_of, IsDistinct}
 use Rattle.uq_value.specs.Depth.{data_depth, items_depth, members_depth}
 use Rattle.uq_value.specs.Number.{digits_value, positive, negative}
 use Rattle.uq_value.specs.Put.{with_member}
-use Rattle.uq_json.specs.Grammar.{Language, Padded, Listed, Bracketed, none, some, IsMember, merged, merged_behind, has_no_leading_zero, IsNatural, IsNumber, plain, minus, IsScalar, of_null, of_true, of_false, of_number, of_string, IsValue, of_scalar, of_list, of_object, Spells}
-use Rattle.uq_json.specs.Printable.{Fits64, IsPrintable, ItemsArePrintable, MembersArePrintable}
+use Rattle.uq_json.specs.Grammar.{Language, Padded, Listed, Bracketed, none, some, IsJsonMember, merged, merged_behind, has_no_leading_zero, IsNatural, IsNumber, plain, minus, IsScalar, of_null, of_true, of_false, of_number, of_string, IsJsonValue, of_scalar, of_list, of_object, JsonSpells}
+use Rattle.uq_value.specs.IsValue.{Fits64, IsSound, ItemsAreSound, MembersAreSound}
 use Rattle.uq_json.specs.Quote.{quoted}
 use Rattle.uq_json.specs.Strings.{IsString}
 use Rattle.uq_json.specs.Text.{json, item_texts, member_texts, behind_others, comma_separated, bracketed}
 use Rattle.uq_json.proofs.Escapes.{quoted_spells}
-use Rattle.uq_json.proofs.Parts.{items_and_back, members_and_back}
+use Rattle.uq_value.specs.Laws.Levels.{items_of-list_of, members_of-pairs_of}
 use Rattle.uq_json.proofs.Steps.{if_true, if_false}
 
 -- ---- numbers
@@ -115,26 +115,26 @@ merged_distinct ms distinct = merged_apart [] ms (none_in_none ms) distinct
 -- a value without blanks
 Bare : ℕ → Language Data
 Bare zero w d = IsScalar w d
-Bare (suc k) w d = IsValue (Spells k) w d
+Bare (suc k) w d = IsJsonValue (JsonSpells k) w d
 
 unpadded : {A : Type 0} (L : Language A) (w : Bytes) (a : A) → L w a → Padded L w a
 unpadded L w a is = record { before = []; middle = w; after = []; parts = sym (append-nil w); blanks_before = refl; blanks_after = refl; inside = is }
 
-bare_spells : (k : ℕ) (w : Bytes) (d : Data) → Bare k w d → Spells k w d
-unfolding Bare Spells
+bare_spells : (k : ℕ) (w : Bytes) (d : Data) → Bare k w d → JsonSpells k w d
+unfolding Bare JsonSpells
 bare_spells zero w d is = unpadded IsScalar w d is
-bare_spells (suc k) w d is = unpadded (IsValue (Spells k)) w d is
+bare_spells (suc k) w d is = unpadded (IsJsonValue (JsonSpells k)) w d is
 
 scalar_bare : (k : ℕ) (w : Bytes) (d : Data) → IsScalar w d → Bare k w d
 unfolding Bare
 scalar_bare zero w d is = is
 scalar_bare (suc k) w d is = of_scalar is
 
-list_bare : (k : ℕ) (w : Bytes) (ds : Datas) (d : Data) → Bracketed (Spells k) 0x5b 0x5d w ds → d ≡ list ds → Bare (suc k) w d
+list_bare : (k : ℕ) (w : Bytes) (ds : Datas) (d : Data) → Bracketed (JsonSpells k) 0x5b 0x5d w ds → d ≡ list ds → Bare (suc k) w d
 unfolding Bare
 list_bare k w ds d is same = of_list ds is same
 
-object_bare : (k : ℕ) (w : Bytes) (ms : Pairs) (d : Data) → Bracketed (IsMember (Spells k)) 0x7b 0x7d w ms → d ≡ object (merged ms) → Bare (suc k) w d
+object_bare : (k : ℕ) (w : Bytes) (ms : Pairs) (d : Data) → Bracketed (IsJsonMember (JsonSpells k)) 0x7b 0x7d w ms → d ≡ object (merged ms) → Bare (suc k) w d
 unfolding Bare
 object_bare k w ms d is same = of_object ms is same
 
@@ -142,7 +142,7 @@ bracket_whole : {A : Type 0} (L : Language A) (opening close : ℕ) (ps : List B
 bracket_whole L opening close ps xs (inl both) = none [] (ap (λ (qs : List Bytes). bracketed opening qs close) both.0) refl both.1
 bracket_whole L opening close ps xs (inr listed) = some (comma_separated ps ++ close ∷ []) refl listed
 
-named : (L : Language Data) (name : Bytes) (w : Bytes) (d : Data) → L w d → IsMember L (quoted name ++ 0x3a ∷ w) (name, d)
+named : (L : Language Data) (name : Bytes) (w : Bytes) (d : Data) → L w d → IsJsonMember L (quoted name ++ 0x3a ∷ w) (name, d)
 named L name w d is = record { name = quoted name; rest = w; parts = refl; is_name = unpadded IsString (quoted name) name (quoted_spells name); is_value = is }
 
 one_listed : {A : Type 0} (L : Language A) (close : ℕ) (p : Bytes) (a : A) → L p a → Listed L close (comma_separated (p ∷ []) ++ close ∷ []) (a ∷ [])
@@ -153,43 +153,43 @@ more_listed L close p q ps a b xs is others =
     (p, 0x2c ∷ (comma_separated (q ∷ ps) ++ close ∷ []), append_assoc p (behind_others (q ∷ ps)) (close ∷ []), is, inr (comma_separated (q ∷ ps) ++ close ∷ [], refl, others))
 
 mutual
-  printed : (d : Data) (k : ℕ) → data_depth d ≤ k → IsPrintable d → Bare k (json d) d
+  printed : (d : Data) (k : ℕ) → data_depth d ≤ k → IsSound d → Bare k (json d) d
   printed null k deep is = scalar_bare k (codes "null") null (of_null refl refl)
-  printed (boolean true) k deep is = scalar_bare k (codes "true") (boolean true) (of_true refl refl)
-  printed (boolean false) k deep is = scalar_bare k (codes "false") (boolean false) (of_false refl refl)
-  printed (whole z) k deep is = scalar_bare k (signed_decimal z) (whole z) (of_number z (number_printed z is) refl)
+  printed (bool true) k deep is = scalar_bare k (codes "true") (bool true) (of_true refl refl)
+  printed (bool false) k deep is = scalar_bare k (codes "false") (bool false) (of_false refl refl)
+  printed (int z) k deep is = scalar_bare k (signed_decimal z) (int z) (of_number z (number_printed z is) refl)
   printed (text bs) k deep is = scalar_bare k (quoted bs) (text bs) (of_string bs (quoted_spells bs) refl)
   printed (sequence ds) zero deep is = absurd (omega (arith, deep))
   printed (sequence ds) (suc k) deep is =
-      list_bare k (json (sequence ds)) (list_of ds) (sequence ds) (bracket_whole (Spells k) 0x5b 0x5d (item_texts ds) (list_of ds) (printed_items ds k (omega (arith, deep)) is)) (ap sequence (sym (items_and_back ds)))
+      list_bare k (json (sequence ds)) (list_of ds) (sequence ds) (bracket_whole (JsonSpells k) 0x5b 0x5d (item_texts ds) (list_of ds) (printed_items ds k (omega (arith, deep)) is)) (ap sequence (sym (items_of-list_of ds)))
   printed (mapping ms) zero deep is = absurd (omega (arith, deep))
   printed (mapping ms) (suc k) deep is =
-      object_bare k (json (mapping ms)) (pairs_of ms) (mapping ms) (bracket_whole (IsMember (Spells k)) 0x7b 0x7d (member_texts ms) (pairs_of ms) (printed_members ms k (omega (arith, deep)) is.1))
-      (ap mapping (sym (members_and_back ms)) ∙ ap object (sym (merged_distinct (pairs_of ms) is.0)))
+      object_bare k (json (mapping ms)) (pairs_of ms) (mapping ms) (bracket_whole (IsJsonMember (JsonSpells k)) 0x7b 0x7d (member_texts ms) (pairs_of ms) (printed_members ms k (omega (arith, deep)) is.1))
+      (ap mapping (sym (members_of-pairs_of ms)) ∙ ap object (sym (merged_distinct (pairs_of ms) is.0)))
 
-  printed_items : (ds : Items) (k : ℕ) → items_depth ds ≤ k → ItemsArePrintable ds → ((item_texts ds ≡ []) × (list_of ds ≡ [])) ⊎ Listed (Spells k) 0x5d (comma_separated (item_texts ds) ++ 0x5d ∷ []) (list_of ds)
+  printed_items : (ds : Items) (k : ℕ) → items_depth ds ≤ k → ItemsAreSound ds → ((item_texts ds ≡ []) × (list_of ds ≡ [])) ⊎ Listed (JsonSpells k) 0x5d (comma_separated (item_texts ds) ++ 0x5d ∷ []) (list_of ds)
   printed_items no_items k deep is = inl (refl, refl)
-  printed_items (item d no_items) k deep is = inr (one_listed (Spells k) 0x5d (json d) d (bare_spells k (json d) d (printed d k (omega (arith, deep)) is.0)))
+  printed_items (item d no_items) k deep is = inr (one_listed (JsonSpells k) 0x5d (json d) d (bare_spells k (json d) d (printed d k (omega (arith, deep)) is.0)))
   printed_items (item d (item e ds)) k deep is =
       elim (printed_items (item e ds) k (omega (arith, deep)) is.1) [
         | inl both ↦ absurd (some_items e ds both.0)
-        | inr others ↦ inr (more_listed (Spells k) 0x5d (json d) (json e) (item_texts ds) d e (list_of ds) (bare_spells k (json d) d (printed d k (omega (arith, deep)) is.0)) others)
+        | inr others ↦ inr (more_listed (JsonSpells k) 0x5d (json d) (json e) (item_texts ds) d e (list_of ds) (bare_spells k (json d) d (printed d k (omega (arith, deep)) is.0)) others)
       ]
     where
       some_items : (e : Data) (ds : Items) → item_texts (item e ds) ≡ [] → ⊥
       some_items e ds h = cc
 
-  printed_members : (ms : Members) (k : ℕ) → members_depth ms ≤ k → MembersArePrintable ms → ((member_texts ms ≡ []) × (pairs_of ms ≡ [])) ⊎ Listed (IsMember (Spells k)) 0x7d (comma_separated (member_texts ms) ++ 0x7d ∷ []) (pairs_of ms)
+  printed_members : (ms : Members) (k : ℕ) → members_depth ms ≤ k → MembersAreSound ms → ((member_texts ms ≡ []) × (pairs_of ms ≡ [])) ⊎ Listed (IsJsonMember (JsonSpells k)) 0x7d (comma_separated (member_texts ms) ++ 0x7d ∷ []) (pairs_of ms)
   printed_members no_members k deep is = inl (refl, refl)
-  printed_members (member n d no_members) k deep is = inr (one_listed (IsMember (Spells k)) 0x7d (quoted n ++ 0x3a ∷ json d) (n, d) (named (Spells k) n (json d) d (bare_spells k (json d) d (printed d k (omega (arith, deep)) is.0))))
+  printed_members (member n d no_members) k deep is = inr (one_listed (IsJsonMember (JsonSpells k)) 0x7d (quoted n ++ 0x3a ∷ json d) (n, d) (named (JsonSpells k) n (json d) d (bare_spells k (json d) d (printed d k (omega (arith, deep)) is.0))))
   printed_members (member n d (member o e ms)) k deep is =
       elim (printed_members (member o e ms) k (omega (arith, deep)) is.1) [
         | inl both ↦ absurd (some_members o e ms both.0)
-        | inr others ↦ inr (more_listed (IsMember (Spells k)) 0x7d (quoted n ++ 0x3a ∷ json d) (quoted o ++ 0x3a ∷ json e) (member_texts ms) (n, d) (o, e) (pairs_of ms) (named (Spells k) n (json d) d (bare_spells k (json d) d (printed d k (omega (arith, deep)) is.0))) others)
+        | inr others ↦ inr (more_listed (IsJsonMember (JsonSpells k)) 0x7d (quoted n ++ 0x3a ∷ json d) (quoted o ++ 0x3a ∷ json e) (member_texts ms) (n, d) (o, e) (pairs_of ms) (named (JsonSpells k) n (json d) d (bare_spells k (json d) d (printed d k (omega (arith, deep)) is.0))) others)
       ]
     where
       some_members : (o : Bytes) (e : Data) (ms : Members) → member_texts (member o e ms) ≡ [] → ⊥
       some_members o e ms h = cc
 
-pub printed_spells : (k : ℕ) (d : Data) → data_depth d ≤ k → IsPrintable d → Spells k (json d) d
+pub printed_spells : (k : ℕ) (d : Data) → data_depth d ≤ k → IsSound d → JsonSpells k (json d) d
 printed_spells k d deep is = bare_spells k (json d) d (printed d k deep is)

@@ -4,10 +4,10 @@ use Rattle.std.specs.Char.{is_ascii_digit}
 use Rattle.std.specs.List.{list_all}
 use Rattle.std.proofs.lemmas.Bool.{eqb-true, eq-eqb, ne_eqb}
 use Rattle.std.proofs.lemmas.Bool.Decides.{nat_tests}
-use Rattle.uq_value.specs.Data.{Bytes, Data, null, boolean, whole, text}
+use Rattle.uq_value.specs.Data.{Bytes, Data, null, bool, int, text}
 use Rattle.uq_value.specs.Number.{digits_value, positive, negative}
 use Rattle.uq_json.specs.Grammar.{has_no_leading_zero, IsNatural, IsNumber, plain, minus, IsScalar, of_null, of_true, of_false, of_number, of_string}
-use Rattle.uq_json.specs.Reading.{Read, ◌>>=◌, literal, digits_of, behind_digits, natural, number_or_fault, number_at, inside_at, string_at, scalar_at}
+use Rattle.uq_json.specs.Internal.Reading.{Read, ◌>>=◌, literal, digits_of, behind_digits, natural, number_or_fault, number_at, inside_at, string_at, scalar_at}
 use Rattle.uq_json.specs.declared.error.JsonFault.TheVariants.{NotJson}
 use Rattle.uq_json.proofs.Steps.{bind_ok, chosen, if_true, if_false, Takes, no_ok}
 use Rattle.uq_json.proofs.Pieces.{inside_takes, string_again}
@@ -149,12 +149,12 @@ string_scalar cs x e =
     let taken = inside_takes cs y found.1 in
     record { used = taken.used; split = taken.split ∙ ap (λ (w : Bytes). taken.used ++ w) rest; reads = of_string y.0 taken.reads (sym same) }
 
-number_scalar : (ts : Bytes) (x : Data × Bytes) → (number_at ts >>= λ y. Ok (whole y.0, y.1)) ≡ Ok x → Takes IsScalar ts x
+number_scalar : (ts : Bytes) (x : Data × Bytes) → (number_at ts >>= λ y. Ok (int y.0, y.1)) ≡ Ok x → Takes IsScalar ts x
 number_scalar ts x e =
-    let found = bind_ok (number_at ts) (λ y. Ok (whole y.0, y.1)) x e in
+    let found = bind_ok (number_at ts) (λ y. Ok (int y.0, y.1)) x e in
     let y = found.0 in
-    let e2 : ◌≡◌ {A = Read Data} (Ok (whole y.0, y.1)) (Ok x) = found.2 in
-    let same : whole y.0 ≡ x.0 = cc in
+    let e2 : ◌≡◌ {A = Read Data} (Ok (int y.0, y.1)) (Ok x) = found.2 in
+    let same : int y.0 ≡ x.0 = cc in
     let rest : y.1 ≡ x.1 = cc in
     let taken = number_takes ts y found.1 in
     record { used = taken.used; split = taken.split ∙ ap (λ (w : Bytes). taken.used ++ w) rest; reads = of_number y.0 taken.reads (sym same) }
@@ -169,8 +169,8 @@ scalar_takes (c ∷ cs) x e =
     let P : Type 0 = Takes IsScalar (c ∷ cs) x in
     by_test P (eqb c 0x22) (inside_at cs >>= λ y. Ok (text y.0, y.1)) _ (Ok x) e (λ is f. subst (λ (n : ℕ). Takes IsScalar (n ∷ cs) x) (sym (eqb-true c 0x22 is)) (string_scalar cs x f)) (λ n1 e1.
     by_test P (eqb c 0x6e) (literal (codes "null") null (c ∷ cs)) _ (Ok x) e1 (λ is f. literal_scalar (codes "null") null (c ∷ cs) x (λ d s. of_null refl s) f) (λ n2 e2.
-    by_test P (eqb c 0x74) (literal (codes "true") (boolean true) (c ∷ cs)) _ (Ok x) e2 (λ is f. literal_scalar (codes "true") (boolean true) (c ∷ cs) x (λ d s. of_true refl s) f) (λ n3 e3.
-    by_test P (eqb c 0x66) (literal (codes "false") (boolean false) (c ∷ cs)) (number_at (c ∷ cs) >>= λ y. Ok (whole y.0, y.1)) (Ok x) e3 (λ is f. literal_scalar (codes "false") (boolean false) (c ∷ cs) x (λ d s. of_false refl s) f) (λ n4 e4. number_scalar (c ∷ cs) x e4))))
+    by_test P (eqb c 0x74) (literal (codes "true") (bool true) (c ∷ cs)) _ (Ok x) e2 (λ is f. literal_scalar (codes "true") (bool true) (c ∷ cs) x (λ d s. of_true refl s) f) (λ n3 e3.
+    by_test P (eqb c 0x66) (literal (codes "false") (bool false) (c ∷ cs)) (number_at (c ∷ cs) >>= λ y. Ok (int y.0, y.1)) (Ok x) e3 (λ is f. literal_scalar (codes "false") (bool false) (c ∷ cs) x (λ d s. of_false refl s) f) (λ n4 e4. number_scalar (c ∷ cs) x e4))))
 
 -- ---- what they begin with
 
@@ -191,22 +191,22 @@ scalar_begins w d (of_false is value) = record { first = 0x66; others = codes "a
 scalar_begins w d (of_number z is value) = let b = number_begins w z is in let low = b.low in let high = b.high in record { first = b.first; others = b.others; is = b.is; printed = omega arith; no_list = omega arith; no_object = omega arith; no_list_end = omega arith; no_object_end = omega arith }
 scalar_begins w d (of_string bs is value) = record { first = 0x22; others = is.body; is = is.opened; printed = omega arith; no_list = omega arith; no_object = omega arith; no_list_end = omega arith; no_object_end = omega arith }
 
-number_last : (c : ℕ) (cs : Bytes) → 0x2d ≤ c → c < 0x3a → scalar_at (c ∷ cs) ≡ (number_at (c ∷ cs) >>= λ y. Ok (whole y.0, y.1))
+number_last : (c : ℕ) (cs : Bytes) → 0x2d ≤ c → c < 0x3a → scalar_at (c ∷ cs) ≡ (number_at (c ∷ cs) >>= λ y. Ok (int y.0, y.1))
 number_last c cs low high =
     if_false (eqb c 0x22) (inside_at cs >>= λ y. Ok (text y.0, y.1)) _ (ne_eqb c 0x22 (λ e. omega (arith, e)))
     ∙ if_false (eqb c 0x6e) (literal (codes "null") null (c ∷ cs)) _ (ne_eqb c 0x6e (λ e. omega (arith, e)))
-    ∙ if_false (eqb c 0x74) (literal (codes "true") (boolean true) (c ∷ cs)) _ (ne_eqb c 0x74 (λ e. omega (arith, e)))
-    ∙ if_false (eqb c 0x66) (literal (codes "false") (boolean false) (c ∷ cs)) (number_at (c ∷ cs) >>= λ y. Ok (whole y.0, y.1)) (ne_eqb c 0x66 (λ e. omega (arith, e)))
+    ∙ if_false (eqb c 0x74) (literal (codes "true") (bool true) (c ∷ cs)) _ (ne_eqb c 0x74 (λ e. omega (arith, e)))
+    ∙ if_false (eqb c 0x66) (literal (codes "false") (bool false) (c ∷ cs)) (number_at (c ∷ cs) >>= λ y. Ok (int y.0, y.1)) (ne_eqb c 0x66 (λ e. omega (arith, e)))
 
 pub scalar_again : (w : Bytes) (d : Data) (rest : Bytes) → IsScalar w d → NoDigit rest → scalar_at (w ++ rest) ≡ Ok (d, rest)
 scalar_again w d rest (of_null is value) end = ap (λ (v : Bytes). scalar_at (v ++ rest)) is ∙ literal_again (codes "null") null rest ∙ ap (λ (e : Data). Ok (e, rest)) (sym value)
-scalar_again w d rest (of_true is value) end = ap (λ (v : Bytes). scalar_at (v ++ rest)) is ∙ literal_again (codes "true") (boolean true) rest ∙ ap (λ (e : Data). Ok (e, rest)) (sym value)
-scalar_again w d rest (of_false is value) end = ap (λ (v : Bytes). scalar_at (v ++ rest)) is ∙ literal_again (codes "false") (boolean false) rest ∙ ap (λ (e : Data). Ok (e, rest)) (sym value)
+scalar_again w d rest (of_true is value) end = ap (λ (v : Bytes). scalar_at (v ++ rest)) is ∙ literal_again (codes "true") (bool true) rest ∙ ap (λ (e : Data). Ok (e, rest)) (sym value)
+scalar_again w d rest (of_false is value) end = ap (λ (v : Bytes). scalar_at (v ++ rest)) is ∙ literal_again (codes "false") (bool false) rest ∙ ap (λ (e : Data). Ok (e, rest)) (sym value)
 scalar_again w d rest (of_number z is value) end =
     let b = number_begins w z is in
     let shown : w ++ rest ≡ b.first ∷ (b.others ++ rest) = ap (λ (v : Bytes). v ++ rest) b.is in
-    ap scalar_at shown ∙ number_last b.first (b.others ++ rest) b.low b.high ∙ ap (λ (v : Bytes). number_at v >>= λ y. Ok (whole y.0, y.1)) (sym shown)
-    ∙ ap (λ (r : Read ℤ). r >>= λ y. Ok (whole y.0, y.1)) (number_again w z rest is end) ∙ ap (λ (e : Data). Ok (e, rest)) (sym value)
+    ap scalar_at shown ∙ number_last b.first (b.others ++ rest) b.low b.high ∙ ap (λ (v : Bytes). number_at v >>= λ y. Ok (int y.0, y.1)) (sym shown)
+    ∙ ap (λ (r : Read ℤ). r >>= λ y. Ok (int y.0, y.1)) (number_again w z rest is end) ∙ ap (λ (e : Data). Ok (e, rest)) (sym value)
 scalar_again w d rest (of_string bs is value) end =
     ap (λ (v : Bytes). scalar_at (v ++ rest)) is.opened
     ∙ ap (λ (r : Read Bytes). r >>= λ y. Ok (text y.0, y.1)) (ap (λ (v : Bytes). string_at (v ++ rest)) (sym is.opened) ∙ string_again w bs rest is)

@@ -3,7 +3,7 @@ use Rattle.std.proofs.Common.{◌≡◌, ◌≤◌, Bool, true, false, cond, ◌
 use Rattle.std.specs.Result.{IfOk}
 use Rattle.uq_value.specs.Data.{Bytes}
 use Rattle.uq_json.specs.Grammar.{Language}
-use Rattle.uq_json.specs.Reading.{Read, ◌>>=◌}
+use Rattle.uq_json.specs.Internal.Reading.{Read, ◌>>=◌}
 use Rattle.uq_json.specs.declared.error.JsonFault.{JsonFault}
 
 pub bind_ok : {A B : Type 0} (r : Read A) (f : A × Bytes → Read B) (y : B × Bytes) → (r >>= f) ≡ Ok y → (x : A × Bytes) × (r ≡ Ok x) × (f x ≡ Ok y)

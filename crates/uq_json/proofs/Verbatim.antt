@@ -6,11 +6,11 @@ use Rattle.std.proofs.lemmas.List.Concat.{flat_map-cons}
 use Rattle.uq_value.specs.Data.{Bytes}
 use Rattle.uq_json.specs.Quote.{escaped}
 use Rattle.uq_json.specs.Strings.{Piece, byte, IsPlain, itself, bytes_of, utf8}
-use Rattle.uq_json.specs.Decoding.{bytes_behind, waiting_bytes, decoded}
+use Rattle.uq_json.specs.Internal.Decoding.{bytes_behind, waiting_bytes, decoded}
 use Rattle.uq_json.proofs.Steps.{if_false}
 use Rattle.uq_json.proofs.Decoding.{tail_whole}
 use Rattle.uq_json.proofs.Pieces.{piece_again}
-use Rattle.uq_json.specs.Reading.{Read, ◌>>=◌, piece_at, pieces_within, is_verbatim, verbatim_of, behind_verbatim}
+use Rattle.uq_json.specs.Internal.Reading.{Read, ◌>>=◌, piece_at, pieces_within, is_verbatim, verbatim_of, behind_verbatim}
 
 pub behind_no_longer : (ts : Bytes) → length (behind_verbatim ts) ≤ length ts
 behind_no_longer [] = omega arith

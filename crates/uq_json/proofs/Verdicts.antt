@@ -5,12 +5,11 @@ use Rattle.uq_value.specs.Size.{data_size, most_size}
 use Rattle.uq_value.specs.Depth.{most_depth}
 use Rattle.uq_value.specs.Plain.{plain, value_of, size}
 use Rattle.uq_value.specs.declared.value.Value.{Value}
-use Rattle.uq_value.specs.declared.value.Value.TheVariants.{Null, Bool, Int, Text, List as List', Object as Object'}
-use Rattle.uq_json.proofs.Parts.{list_and_back, pairs_and_back}
-use Rattle.uq_json.specs.Grammar.{Spells}
-use Rattle.uq_json.specs.Answer.{Begins, OpensTooDeep, IsNoJson, SpellsValue, SpellsTooLarge, Answers}
-use Rattle.uq_json.specs.Found.{StandsFor}
-use Rattle.uq_json.specs.Reading.{Read, Fails, element_at}
+use Rattle.uq_value.specs.Laws.Levels.{list_of-items_of, pairs_of-members_of}
+use Rattle.uq_json.specs.Grammar.{JsonSpells}
+use Rattle.uq_json.specs.Answer.{Begins, OpensTooDeep, IsNoJson, SpellsValue, SpellsTooLarge, JsonAnswers}
+use Rattle.uq_json.specs.Internal.Found.{StandsFor}
+use Rattle.uq_json.specs.Internal.Reading.{Read, Fails, element_at}
 use Rattle.uq_json.specs.declared.error.JsonFault.{JsonFault}
 use Rattle.uq_json.specs.declared.error.JsonFault.TheVariants as fault
 use Rattle.uq_json.proofs.Agreement.{levels_agree}
@@ -28,16 +27,16 @@ abbrev data_of : Data → Read Data → Data
 data_of d (Ok x) = x.0
 data_of d (Err w) = d
 
-whole : (k : ℕ) (ts : Bytes) (d : Data) → Spells k ts d → element_at k ts ≡ Ok (d, [])
+whole : (k : ℕ) (ts : Bytes) (d : Data) → JsonSpells k ts d → element_at k ts ≡ Ok (d, [])
 whole k ts d is = ap (element_at k) (sym (append-nil ts)) ∙ element_again k ts d [] is tt
 
 -- ---- what is read
 
-pub spelled_so : (k : ℕ) (ts rest : Bytes) (d : Data) → element_at k ts ≡ Ok (d, rest) → length rest ≡ 0 → Spells k ts d
-spelled_so k ts [] d e none = let taken = element_takes k ts (d, []) e in subst (λ (w : Bytes). Spells k w d) (sym (taken.split ∙ append-nil taken.used)) taken.reads
+pub spelled_so : (k : ℕ) (ts rest : Bytes) (d : Data) → element_at k ts ≡ Ok (d, rest) → length rest ≡ 0 → JsonSpells k ts d
+spelled_so k ts [] d e none = let taken = element_takes k ts (d, []) e in subst (λ (w : Bytes). JsonSpells k w d) (sym (taken.split ∙ append-nil taken.used)) taken.reads
 spelled_so k ts (c ∷ cs) d e none = absurd (omega (arith, none))
 
-pub one_value : (k : ℕ) (ts : Bytes) (d e : Data) → Spells k ts d → Spells k ts e → d ≡ e
+pub one_value : (k : ℕ) (ts : Bytes) (d e : Data) → JsonSpells k ts d → JsonSpells k ts e → d ≡ e
 one_value k ts d e is also = ap (data_of d) (sym (whole k ts d is) ∙ whole k ts e also)
 
 -- ---- a bracket too many
@@ -55,11 +54,11 @@ deep_word ts e =
       is_opening = d.is_opening;
       shallow_before = w;
       more = suc most_depth;
-      deeper = (b.0, b.1, subst (λ (v : Bytes). Spells (suc most_depth) v b.1) (sym (append_assoc d.seen (d.opening ∷ []) b.0)) b.2);
-      too_deep = λ begins. refused d begins.0 begins.1 (subst (λ (v : Bytes). Spells most_depth v begins.1) (append_assoc d.seen (d.opening ∷ []) begins.0) begins.2);
+      deeper = (b.0, b.1, subst (λ (v : Bytes). JsonSpells (suc most_depth) v b.1) (sym (append_assoc d.seen (d.opening ∷ []) b.0)) b.2);
+      too_deep = λ begins. refused d begins.0 begins.1 (subst (λ (v : Bytes). JsonSpells most_depth v begins.1) (append_assoc d.seen (d.opening ∷ []) begins.0) begins.2);
     }
   where
-    refused : (d : Deep (Spells most_depth) (Spells (suc most_depth)) (λ seen opening. (x : Bytes) → element_at most_depth (seen ++ opening ∷ x) ≡ Err fault.TooDeep) ts) (rest : Bytes) (v : Data) → Spells most_depth (d.seen ++ d.opening ∷ rest) v → ⊥
+    refused : (d : Deep (JsonSpells most_depth) (JsonSpells (suc most_depth)) (λ seen opening. (x : Bytes) → element_at most_depth (seen ++ opening ∷ x) ≡ Err fault.TooDeep) ts) (rest : Bytes) (v : Data) → JsonSpells most_depth (d.seen ++ d.opening ∷ rest) v → ⊥
     refused d rest v is = ok_apart v [] fault.TooDeep (sym (whole most_depth (d.seen ++ d.opening ∷ rest) v is) ∙ d.stops rest)
 
 -- ---- no value, and no bracket too many
@@ -77,20 +76,20 @@ fronts (c ∷ cs) x (d ∷ ds) y e =
     by head (inl (f, p, q)) = inl (f, ap (λ (w : Bytes). c ∷ w) p ∙ ap (λ (n : ℕ). n ∷ ds) head, q)
     by head (inr (f, fs, p, q)) = inr (f, fs, ap (λ (w : Bytes). d ∷ w) p ∙ ap (λ (n : ℕ). n ∷ cs) (sym head), q)
 
-pub wider_by : (j k : ℕ) (w : Bytes) (d : Data) → Spells k w d → Spells (j + k) w d
-wider_by zero k w d is = subst (λ (n : ℕ). Spells n w d) (zero_first k) is
+pub wider_by : (j k : ℕ) (w : Bytes) (d : Data) → JsonSpells k w d → JsonSpells (j + k) w d
+wider_by zero k w d is = subst (λ (n : ℕ). JsonSpells n w d) (zero_first k) is
   where
     zero_first : (k : ℕ) → k ≡ 0 + k
     zero_first k = omega arith
-wider_by (suc j) k w d is = subst (λ (n : ℕ). Spells n w d) (next j k) (levels_wider (j + k) w d (wider_by j k w d is))
+wider_by (suc j) k w d is = subst (λ (n : ℕ). JsonSpells n w d) (next j k) (levels_wider (j + k) w d (wider_by j k w d is))
   where
     next : (j k : ℕ) → suc (j + k) ≡ suc j + k
     next j k = omega arith
 
 -- what is spelled at any number of levels is read, unless a bracket too many comes
-spelled_read : (k : ℕ) (ts : Bytes) (d : Data) → Spells k ts d → (element_at most_depth ts ≡ Ok (d, [])) ⊎ (element_at most_depth ts ≡ Err fault.TooDeep)
+spelled_read : (k : ℕ) (ts : Bytes) (d : Data) → JsonSpells k ts d → (element_at most_depth ts ≡ Ok (d, [])) ⊎ (element_at most_depth ts ≡ Err fault.TooDeep)
 spelled_read k ts d is =
-    let wide : Spells (most_depth + k) ts d = wider_by most_depth k ts d is in
+    let wide : JsonSpells (most_depth + k) ts d = wider_by most_depth k ts d is in
     by (levels_agree most_depth (most_depth + k) ts (omega arith)) (whole (most_depth + k) ts d wide)
   where
     by : (element_at most_depth ts ≡ element_at (most_depth + k) ts) ⊎ (element_at most_depth ts ≡ Err fault.TooDeep) → element_at (most_depth + k) ts ≡ Ok (d, []) → (element_at most_depth ts ≡ Ok (d, [])) ⊎ (element_at most_depth ts ≡ Err fault.TooDeep)
@@ -105,11 +104,11 @@ not_deep ts shallow opens =
     by front b.0 b.1 split opens.too_deep (spelled_read opens.more (front ++ b.0) b.1 b.2)
   where
     met : (front rest after : Bytes) → ts ≡ front ++ after → (Begins most_depth front → ⊥)
-        → (d : Deep (Spells most_depth) (Spells (suc most_depth)) (λ seen opening. (x : Bytes) → element_at most_depth (seen ++ opening ∷ x) ≡ Err fault.TooDeep) (front ++ rest))
+        → (d : Deep (JsonSpells most_depth) (JsonSpells (suc most_depth)) (λ seen opening. (x : Bytes) → element_at most_depth (seen ++ opening ∷ x) ≡ Err fault.TooDeep) (front ++ rest))
         → ((c : Bytes) × (front ++ c ≡ d.seen) × (rest ≡ c ++ d.opening ∷ d.after)) ⊎ ((c : ℕ) × (cs : Bytes) × (d.seen ++ c ∷ cs ≡ front) × (d.opening ∷ d.after ≡ c ∷ (cs ++ rest))) → ⊥
     met front rest after split none d (inl (c, p, q)) =
         let w = d.within in
-        none (c ++ w.0, w.1, subst (λ (v : Bytes). Spells most_depth v w.1) (ap (λ (v : Bytes). v ++ w.0) (sym p) ∙ append_assoc front c w.0) w.2)
+        none (c ++ w.0, w.1, subst (λ (v : Bytes). JsonSpells most_depth v w.1) (ap (λ (v : Bytes). v ++ w.0) (sym p) ∙ append_assoc front c w.0) w.2)
     met front rest after split none d (inr (c, cs, p, q)) =
         let same : c ≡ d.opening = cc in
         let shown : ts ≡ d.seen ++ d.opening ∷ (cs ++ after) = split ∙ ap (λ (v : Bytes). v ++ after) (sym p) ∙ append_assoc d.seen (c ∷ cs) after ∙ ap (λ (n : ℕ). d.seen ++ n ∷ (cs ++ after)) same in
@@ -137,20 +136,20 @@ rest_left ts rest d e some = no_value ts (λ v is. let none : rest ≡ [] = ap r
 
 -- ---- one answer
 
-pub exclusive : (ts : Bytes) (d : Data) → Spells most_depth ts d → (IsNoJson ts → ⊥) × (OpensTooDeep ts → ⊥)
+pub exclusive : (ts : Bytes) (d : Data) → JsonSpells most_depth ts d → (IsNoJson ts → ⊥) × (OpensTooDeep ts → ⊥)
 exclusive ts d is = (λ none. none.spells_none most_depth d is, λ opens. not_deep ts (λ e. ok_apart d [] fault.TooDeep (sym (whole most_depth ts d is) ∙ e)) opens)
 
 -- a fault of reading is the answer
-pub fault_answer : (ts : Bytes) (why : JsonFault) → Fails why (element_at most_depth ts) → Answers ts (Err why)
+pub fault_answer : (ts : Bytes) (why : JsonFault) → Fails why (element_at most_depth ts) → JsonAnswers ts (Err why)
 fault_answer ts fault.Memory fails = tt
 fault_answer ts fault.NotJson fails = stuck_word ts fails
 fault_answer ts fault.TooDeep fails = deep_word ts fails
 fault_answer ts fault.TooLarge fails = absurd fails
 
-pub value_answer : (ts rest : Bytes) (one : Option Value) (v : Value) → (d : Data) × (element_at most_depth ts ≡ Ok (d, rest)) × StandsFor one d → length rest ≡ 0 → one ≡ Some v → size v ≤ most_size → Answers ts (Ok v)
+pub value_answer : (ts rest : Bytes) (one : Option Value) (v : Value) → (d : Data) × (element_at most_depth ts ≡ Ok (d, rest)) × StandsFor one d → length rest ≡ 0 → one ≡ Some v → size v ≤ most_size → JsonAnswers ts (Ok v)
 value_answer ts rest one v (d, e, stands) none is small' =
     let same : plain v ≡ d = subst (λ (o : Option Value). StandsFor o d) is stands in
-    record { spells = subst (Spells most_depth ts) (sym same) (spelled_so most_depth ts rest d e none); small = small' }
+    record { spells = subst (JsonSpells most_depth ts) (sym same) (spelled_so most_depth ts rest d e none); small = small' }
 
 pub large_answer : (ts rest : Bytes) (one : Option Value) → (d : Data) × (element_at most_depth ts ≡ Ok (d, rest)) × StandsFor one d → length rest ≡ 0 → one ≡ None → SpellsTooLarge ts
 large_answer ts rest one (d, e, stands) none is = record { spelled = d; spells = spelled_so most_depth ts rest d e none; large = subst (λ (o : Option Value). StandsFor o d) is stands }
@@ -159,12 +158,12 @@ pub rest_answer : (ts rest : Bytes) (one : Option Value) → (d : Data) × (elem
 rest_answer ts rest one (d, e, stands) some = rest_left ts rest d e some
 
 value_and_back : (v : Value) → value_of (plain v) ≡ v
-value_and_back Null = refl
-value_and_back (Bool b) = refl
-value_and_back (Int z) = refl
-value_and_back (Text bs) = refl
-value_and_back (List' ds) = ap List' (list_and_back ds)
-value_and_back (Object' ms) = ap Object' (pairs_and_back ms)
+value_and_back Value.Null = refl
+value_and_back (Value.Bool b) = refl
+value_and_back (Value.Int z) = refl
+value_and_back (Value.Text bs) = refl
+value_and_back (Value.List ds) = ap Value.List (list_of-items_of ds)
+value_and_back (Value.Object ms) = ap Value.Object (pairs_of-members_of ms)
 
 abbrev Answer : Type 0
 Answer = Result Value JsonFault
@@ -178,7 +177,7 @@ same_value ts v w is also = sym (value_and_back v) ∙ ap value_of (one_value mo
 not_both : (ts : Bytes) (v : Value) → SpellsValue ts (plain v) → SpellsTooLarge ts → ⊥
 not_both ts v is large = let same : plain v ≡ large.spelled = one_value most_depth ts (plain v) large.spelled is.spells large.spells in let sizes : data_size (plain v) ≡ data_size large.spelled = ap data_size same in let a = is.small in let b = large.large in omega (arith, a, b, sizes)
 
-pub only_answer : (ts : Bytes) (a b : Answer) → Answers ts a → Answers ts b → (a ≡ Err fault.Memory → ⊥) → (b ≡ Err fault.Memory → ⊥) → a ≡ b
+pub only_answer : (ts : Bytes) (a b : Answer) → JsonAnswers ts a → JsonAnswers ts b → (a ≡ Err fault.Memory → ⊥) → (b ≡ Err fault.Memory → ⊥) → a ≡ b
 only_answer ts (Err fault.Memory) b is also here there = memory_apart here
 only_answer ts (Ok v) (Err fault.Memory) is also here there = memory_apart there
 only_answer ts (Ok v) (Ok w) is also here there = ap (λ (u : Value). let r : Answer = Ok u in r) (same_value ts v w is also)

@@ -3,7 +3,7 @@ use Rattle.std.proofs.Common.{◌≡◌, ℕ, ◌<◌, [], ◌∷◌, length, Ok
 use Rattle.uq_value.specs.Data.{Bytes}
 use Rattle.uq_json.specs.Strings.{IsString}
 use Rattle.uq_json.specs.Answer.{AnswersString}
-use Rattle.uq_json.specs.Reading.{Read, Fails, string_at}
+use Rattle.uq_json.specs.Internal.Reading.{Read, Fails, string_at}
 use Rattle.uq_json.specs.declared.error.JsonFault.{JsonFault}
 use Rattle.uq_json.specs.declared.error.JsonFault.TheVariants as fault
 use Rattle.uq_json.proofs.Faults.{string_shallow}

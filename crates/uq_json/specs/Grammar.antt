@@ -2,7 +2,7 @@
 use Rattle.std.specs.Prelude.{◌≡◌, ℕ, zero, suc, ℤ, Bool, true, false, not, ◌||◌, ◌==◌, ◌⊎◌, List, [], ◌∷◌, ◌++◌, Some, codes}
 use Rattle.std.specs.List.{list_all}
 use Rattle.std.specs.Char.{is_ascii_digit}
-use Rattle.uq_value.specs.Data.{Bytes, Data, Pairs, null, boolean, whole, text, list, object}
+use Rattle.uq_value.specs.Data.{Bytes, Data, Pairs, null, bool, int, text, list, object}
 use Rattle.uq_value.specs.Number.{digits_value, positive, negative}
 use Rattle.uq_value.specs.Put.{with_member}
 use Rattle.uq_json.specs.Strings.{IsString}
@@ -36,9 +36,9 @@ pub data IsNumber (word : Bytes) (z : ℤ) : Type 0 where
 -- a value that has no parts
 pub data IsScalar (word : Bytes) (d : Data) : Type 0 where
   of_null : word ≡ codes "null" → d ≡ null → IsScalar word d
-  of_true : word ≡ codes "true" → d ≡ boolean true → IsScalar word d
-  of_false : word ≡ codes "false" → d ≡ boolean false → IsScalar word d
-  of_number : (z : ℤ) → IsNumber word z → d ≡ whole z → IsScalar word d
+  of_true : word ≡ codes "true" → d ≡ bool true → IsScalar word d
+  of_false : word ≡ codes "false" → d ≡ bool false → IsScalar word d
+  of_number : (z : ℤ) → IsNumber word z → d ≡ int z → IsScalar word d
   of_string : (bs : Bytes) → IsString word bs → d ≡ text bs → IsScalar word d
 
 -- blanks may stand on both sides
@@ -64,7 +64,7 @@ pub data Bracketed {A : Type 0} (L : Language A) (opening close : ℕ) (word : B
   some : (body : Bytes) → word ≡ opening ∷ body → Listed L close body xs → Bracketed L opening close word xs
 
 -- a name, a colon and a value
-pub record IsMember (value : Language Data) (word : Bytes) (m : Bytes × Data) : Type 0 where
+pub record IsJsonMember (value : Language Data) (word : Bytes) (m : Bytes × Data) : Type 0 where
   pub name : Bytes
   pub rest : Bytes
   pub parts : word ≡ name ++ 0x3a ∷ rest
@@ -80,12 +80,12 @@ abbrev pub merged : Pairs → Pairs
 merged ms = merged_behind [] ms
 
 -- a value, of whose parts each is in the language within
-pub data IsValue (within : Language Data) (word : Bytes) (d : Data) : Type 0 where
-  of_scalar : IsScalar word d → IsValue within word d
-  of_list : (ds : List Data) → Bracketed within 0x5b 0x5d word ds → d ≡ list ds → IsValue within word d
-  of_object : (ms : Pairs) → Bracketed (IsMember within) 0x7b 0x7d word ms → d ≡ object (merged ms) → IsValue within word d
+pub data IsJsonValue (within : Language Data) (word : Bytes) (d : Data) : Type 0 where
+  of_scalar : IsScalar word d → IsJsonValue within word d
+  of_list : (ds : List Data) → Bracketed within 0x5b 0x5d word ds → d ≡ list ds → IsJsonValue within word d
+  of_object : (ms : Pairs) → Bracketed (IsJsonMember within) 0x7b 0x7d word ms → d ≡ object (merged ms) → IsJsonValue within word d
 
 -- the text spells this value, and opens at most so many levels of lists and objects
-unfoldable pub Spells : ℕ → Bytes → Data → Type 0
-Spells zero word d = Padded IsScalar word d
-Spells (suc k) word d = Padded (IsValue (Spells k)) word d
+unfoldable pub JsonSpells : ℕ → Bytes → Data → Type 0
+JsonSpells zero word d = Padded IsScalar word d
+JsonSpells (suc k) word d = Padded (IsJsonValue (JsonSpells k)) word d

@@ -3,8 +3,5 @@ pub mod Strings
 pub mod Grammar
 pub mod Text
 pub mod Answer
-pub mod Reading
-pub mod Decoding
-pub mod Printable
-pub mod Printing
-pub mod Found
+pub mod Laws
+pub mod Internal

@@ -1,10 +1,9 @@
 -- The JSON text of a value, without blanks, and its text.
 use Rattle.std.specs.Prelude.{ℕ, if◌then◌else◌, List, [], ◌∷◌, ◌++◌, codes}
 use Rattle.std.specs.Fmt.{signed_decimal}
-use Rattle.uq_value.specs.Data.{Bytes, Data, null, boolean, whole, text, sequence, mapping, Items, no_items, item, Members, no_members, member}
+use Rattle.uq_value.specs.Data.{Bytes, Data, null, bool, int, text, sequence, mapping, Items, no_items, item, Members, no_members, member}
 use Rattle.uq_value.specs.Plain.{plain}
 use Rattle.uq_value.specs.declared.value.Value.{Value}
-use Rattle.uq_value.specs.declared.value.Value.TheVariants.{Null, Text}
 use Rattle.uq_json.specs.Quote.{quoted}
 
 -- a comma before each
@@ -23,8 +22,8 @@ bracketed opening ps close = opening ∷ (comma_separated ps ++ close ∷ [])
 abbrev mutual
   pub json : Data → Bytes
   json null = codes "null"
-  json (boolean b) = if b then codes "true" else codes "false"
-  json (whole z) = signed_decimal z
+  json (bool b) = if b then codes "true" else codes "false"
+  json (int z) = signed_decimal z
   json (text bs) = quoted bs
   json (sequence ds) = bracketed 0x5b (item_texts ds) 0x5d
   json (mapping ms) = bracketed 0x7b (member_texts ms) 0x7d
@@ -39,6 +38,6 @@ abbrev mutual
 
 -- null is empty, a text is itself, all else is its JSON text
 abbrev pub text_of : Value → Bytes
-text_of Null = []
-text_of (Text bs) = bs
+text_of Value.Null = []
+text_of (Value.Text bs) = bs
 text_of v = json (plain v)

@@ -1,7 +1,6 @@
-// The bytes of a JSON string, piece by piece.
-
+//! The bytes of a JSON string, piece by piece.
 ghost use Rattle.std.specs.Prelude.{◌≡◌, ◌+◌, ◌-◌, ◌*◌, ◌<◌, ◌^◌, ◌%◌, ◌++◌, ◌∷◌, [], List, map, None, OnOk, IfOk, IsTrue, ◌&&◌};
-ghost use Rattle.uq_json.specs.Decoding.{piece as spec_piece, bytes_behind, waiting_bytes};
+ghost use Rattle.uq_json.specs.Internal.Decoding.{piece as spec_piece, bytes_behind, waiting_bytes};
 ghost use Rattle.uq_json.specs.Strings.{Piece as Piece', is_high as spec_is_high, is_low as spec_is_low, pair as spec_pair, utf8};
 
 use crate::piece::Piece;

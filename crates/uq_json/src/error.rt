@@ -1,8 +1,10 @@
-ghost use Rattle.std.specs.Prelude.{◌≡◌};
+//! Why a text is not read as JSON.
+ghost use Rattle.std.specs.Prelude.{◌≡◌, ◌≢◌, None, IfOk, IfErr};
+ghost use Rattle.uq_value.specs.declared.error.ValueFault.TheVariants.{Memory as NoRoom};
 ghost use Rattle.uq_json.specs.declared.error.JsonFault.TheVariants.{Memory};
 
 use std::alloc::AllocError;
-use uq_value::NoMemory;
+use uq_value::{NoMemory, ValueFault};
 
 /// Why a text is not read as JSON.
 #[derive(Clone, Copy, Debug, PartialEq, Eq)]
@@ -30,5 +32,16 @@ impl From<NoMemory> for JsonFault {
 
     fn from(_missing: NoMemory) -> JsonFault {
         JsonFault::Memory
+    }
+}
+
+/// What can't be kept is left out, unless memory was wanting.
+pub(crate) fn left_out<T>(fault: ValueFault) -> Result<Option<T>, JsonFault>
+    ensures ok { IfOk result (λ kept. (kept ≡ None) × (fault ≢ NoRoom)) }
+    ensures err { IfErr result (λ e. e ≡ Memory) }
+{
+    match fault {
+        ValueFault::Memory => Err(JsonFault::Memory),
+        _ => Ok(None),
     }
 }

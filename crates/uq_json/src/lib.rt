@@ -3,6 +3,8 @@
 
 mod decoder;
 mod error;
+mod laws;
+mod members;
 mod numbers;
 mod piece;
 mod printing;
@@ -14,7 +16,8 @@ mod tests;
 mod unquoting;
 
 pub use error::JsonFault;
+pub use laws::{none_begins, one_answer, one_string, prints_back, quotes_back};
 pub use printing::{print_json, text_of};
 pub use quoting::quote;
-pub use reading::{one_answer, read_json};
-pub use unquoting::{one_string, unquote};
+pub use reading::read_json;
+pub use unquoting::unquote;

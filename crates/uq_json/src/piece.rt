@@ -1,9 +1,8 @@
-// One piece of a JSON string: a byte that stands for itself, or an escape.
-
+//! One piece of a JSON string: a byte that stands for itself, or an escape.
 ghost use Rattle.std.specs.Char.{digit_value};
 ghost use Rattle.std.specs.Prelude.{◌≡◌, Some, None, if◌then◌else◌};
-ghost use Rattle.uq_json.specs.Decoding.{piece};
-ghost use Rattle.uq_json.specs.Reading.{Gives, piece_at, escape_at, unicode_at};
+ghost use Rattle.uq_json.specs.Internal.Decoding.{piece};
+ghost use Rattle.uq_json.specs.Internal.Reading.{Gives, piece_at, escape_at, unicode_at};
 ghost use Rattle.uq_json.specs.Strings.{letter as spec_letter, is_hex, are_hex, hex_number as spec_hex_number};
 
 use crate::error::JsonFault;

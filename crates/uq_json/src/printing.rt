@@ -1,30 +1,26 @@
-// The JSON text of a value, without blanks, and its text.
-
+//! The JSON text of a value, without blanks, and its text.
 ghost use Rattle.std.specs.Prelude.{◌≡◌, ◌<◌, ◌++◌, length, Ok, IfOk, OnOk};
 ghost use Rattle.uq_value.specs.Data.{list as list_data, object as object_data};
 ghost use Rattle.uq_value.specs.Plain.{plain};
-ghost use Rattle.uq_json.specs.Answer.{Answers};
-ghost use Rattle.uq_json.specs.Printable.{IsPrintable};
-ghost use Rattle.uq_json.specs.Printing.{comma_before, item_text, member_text, IsPrintableAt, MemberIsPrintableAt};
+ghost use Rattle.uq_json.specs.Answer.{JsonAnswers};
+ghost use Rattle.uq_json.specs.Internal.Printing.{comma_before, item_text, member_text};
 ghost use Rattle.uq_json.specs.Text.{json, text_of as spec_text_of};
 
 use crate::quoting::push_quoted;
 use itoa::Buffer;
 use std::alloc::{AllocError, Global};
-use uq_value::{List, NoMemory, Object, Value, within_limits};
+use uq_value::{List, NoMemory, Object, Value, is_value};
 
 /// The JSON text of a value, without blanks.
 pub fn print_json(alloc: Global, v: &Value) -> Result<Vec<u8>, NoMemory>
     ensures text { IfOk result (λ text. text.items ≡ json (plain v.now)) }
     // So `read_json` gives the value back.
-    ensures answer { IfOk result (λ text. Answers text.items (Ok v.now)) }
+    ensures answer { IfOk result (λ text. JsonAnswers text.items (Ok v.now)) }
 {
-    within_limits(v);
+    is_value(v);
     let mut text = Vec::new(alloc);
-    match push_value(&mut text, v) {
-        Ok(()) => Ok(text),
-        Err(_) => Err(NoMemory),
-    }
+    push_value(&mut text, v)?;
+    Ok(text)
 }
 
 /// The text of a value: null is empty, a text is itself, a boolean or number its word or decimal digits, and a list
@@ -34,18 +30,14 @@ pub fn text_of(alloc: Global, v: &Value) -> Result<Vec<u8>, NoMemory>
 {
     match v {
         Value::Null => Ok(Vec::new(alloc)),
-        Value::Text(t) => match Vec::from_slice(alloc, t.bytes()) {
-            Ok(text) => Ok(text),
-            Err(_) => Err(NoMemory),
-        },
+        Value::Text(t) => Ok(Vec::from_slice(alloc, t.bytes())?),
         _ => print_json(alloc, v),
     }
 }
 
 #[cycle(print)]
 fn push_value(text: &mut Vec<u8>, v: &Value) -> Result<(), AllocError>
-    ensures text { OnOk result (text.new.items ≡ text.old.items ++ json (plain v.now)) }
-    ensures printable { OnOk result (IsPrintable (plain v.now)) }
+    ensures { OnOk result (text.new.items ≡ text.old.items ++ json (plain v.now)) }
 {
     match v {
         Value::Null => text.extend_from_slice(b"null"),
@@ -60,8 +52,7 @@ fn push_value(text: &mut Vec<u8>, v: &Value) -> Result<(), AllocError>
 
 #[cycle(print)]
 fn push_list(text: &mut Vec<u8>, list: &List) -> Result<(), AllocError>
-    ensures text { OnOk result (text.new.items ≡ text.old.items ++ json (list_data list.now)) }
-    ensures printable { OnOk result (IsPrintable (list_data list.now)) }
+    ensures { OnOk result (text.new.items ≡ text.old.items ++ json (list_data list.now)) }
 {
     text.push(b'[')?;
     for at in 0..list.len() {
@@ -74,22 +65,19 @@ fn push_list(text: &mut Vec<u8>, list: &List) -> Result<(), AllocError>
 #[cycle(print)]
 fn push_item(text: &mut Vec<u8>, list: &List, at: usize) -> Result<(), AllocError>
     requires { at < length list.now }
-    ensures text { OnOk result (text.new.items ≡ text.old.items ++ (comma_before at ++ item_text list.now at)) }
-    ensures printable { OnOk result (IsPrintableAt list.now at) }
+    ensures { OnOk result (text.new.items ≡ text.old.items ++ (comma_before at ++ item_text list.now at)) }
 {
     push_comma(text, at)?;
     match list.item(at) {
         Some(item) => push_value(text, item),
-        None => Ok(()),
+        None => unreachable!(),
     }
 }
 
 #[cycle(print)]
 fn push_object(text: &mut Vec<u8>, object: &Object) -> Result<(), AllocError>
-    ensures text { OnOk result (text.new.items ≡ text.old.items ++ json (object_data object.now)) }
-    ensures printable { OnOk result (IsPrintable (object_data object.now)) }
+    ensures { OnOk result (text.new.items ≡ text.old.items ++ json (object_data object.now)) }
 {
-    object.has_distinct_names();
     text.push(b'{')?;
     for at in 0..object.len() {
         push_member(text, object, at)?;
@@ -101,8 +89,7 @@ fn push_object(text: &mut Vec<u8>, object: &Object) -> Result<(), AllocError>
 #[cycle(print)]
 fn push_member(text: &mut Vec<u8>, object: &Object, at: usize) -> Result<(), AllocError>
     requires { at < length object.now }
-    ensures text { OnOk result (text.new.items ≡ text.old.items ++ (comma_before at ++ member_text object.now at)) }
-    ensures printable { OnOk result (MemberIsPrintableAt object.now at) }
+    ensures { OnOk result (text.new.items ≡ text.old.items ++ (comma_before at ++ member_text object.now at)) }
 {
     push_comma(text, at)?;
     match object.member(at) {
@@ -111,7 +98,7 @@ fn push_member(text: &mut Vec<u8>, object: &Object, at: usize) -> Result<(), All
             text.push(b':')?;
             push_value(text, value)
         }
-        None => Ok(()),
+        None => unreachable!(),
     }
 }
 

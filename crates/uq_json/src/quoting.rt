@@ -1,5 +1,4 @@
-// Bytes as a JSON string.
-
+//! Bytes as a JSON string.
 ghost use Rattle.std.specs.Prelude.{◌≡◌, ◌<◌, ◌++◌, OnOk, IfOk};
 ghost use Rattle.uq_json.specs.Quote.{escaped, escaped_control, quoted};
 ghost use Rattle.uq_json.specs.Strings.{IsString};
@@ -17,10 +16,8 @@ pub fn quote(alloc: Global, bytes: &[u8]) -> Result<Vec<u8>, NoMemory>
     ensures spells { IfOk result (λ text. IsString text.items bytes.now) }
 {
     let mut text = Vec::new(alloc);
-    match push_quoted(&mut text, bytes) {
-        Ok(()) => Ok(text),
-        Err(_) => Err(NoMemory),
-    }
+    push_quoted(&mut text, bytes)?;
+    Ok(text)
 }
 
 /// Appends the bytes as a JSON string.

@@ -1,55 +1,43 @@
-// JSON texts, read from the left by functions from a text to what stands at its front and the text behind it.
-//
-// A value that is too large to be one is left out (None), since a repeated member may yet take its place.
-
+//! JSON texts, read from the left by functions from a text to what stands at its front and the text behind it.
+//!
+//! A value that is too large to be one is left out (None), since a repeated member may yet take its place.
 ghost use Rattle.std.specs.Prelude.{◌≡◌, ◌≢◌, ◌<◌, ◌≤◌, ◌++◌, ◌∷◌, [], suc, length, Some, None, Result, Err, IfOk, IfErr, IfSome};
 ghost use Rattle.uq_value.specs.Data.{Bytes, Data, Datas, Pairs, list as list_data, object as object_data};
 ghost use Rattle.uq_value.specs.Depth.{data_depth, most_depth};
 ghost use Rattle.uq_value.specs.Plain.{plain, depth as spec_depth};
-ghost use Rattle.uq_value.specs.Slots.{Stands};
-ghost use Rattle.uq_json.specs.Answer.{Answers};
-ghost use Rattle.uq_json.specs.Found.{Finds, FindsItems, FindsMembers, FindsMember, StandsFor, ListStandsFor};
-ghost use Rattle.uq_json.specs.Reading.{Gives, literal as spec_literal, string_data_at, scalar_at, list_at, object_at, member_at, listed_within, value_within, element_at, separator_at};
-ghost use Rattle.uq_json.specs.declared.error.JsonFault.{JsonFault};
+ghost use Rattle.uq_json.specs.Answer.{JsonAnswers};
+ghost use Rattle.uq_json.specs.Internal.Found.{Finds, FindsItems, FindsMembers, FindsMember, StandsFor, ListStandsFor};
+ghost use Rattle.uq_json.specs.Internal.Reading.{Gives, literal as spec_literal, string_data_at, scalar_at, list_at, object_at, member_at, listed_within, value_within, element_at, separator_at};
 ghost use Rattle.uq_json.specs.declared.error.JsonFault.TheVariants.{Memory};
 ghost use Rattle.uq_value.specs.declared.value.Value.{Value};
-ghost use Rattle.uq_value.specs.declared.error.ValueFault.TheVariants.{Memory as NoRoom};
 
-use crate::error::JsonFault;
+use crate::error::{JsonFault, left_out};
+use crate::members::Members;
 use crate::numbers::number;
 use crate::scanning::{next_is, skip_blanks};
 use crate::unquoting::{inside, string};
 use std::alloc::Global;
-use uq_value::{List, Object, ObjectBuilder, Text, Value, ValueFault, within_limits};
-
-/// The greatest number of levels of lists and objects in a text.
-const MOST_LEVELS: u32 = 128;
+use uq_value::{List, MOST_DEPTH, Object, Text, Value, is_value};
 
 /// The value that the text spells (RFC 8259; numbers are whole and have 64 bits, and strings may hold any bytes from
 /// 0x20 on). Read from the left, it is `TooDeep` exactly where a `[` or `{` opens the 129th level and the text so far
 /// begins a JSON text, `NotJson` exactly where that does not come and the text is not in the grammar, and `TooLarge`
 /// exactly where it is in the grammar and the size of its value is above 16,777,152 bytes.
 pub fn read_json(alloc: Global, text: &[u8]) -> Result<Value, JsonFault>
-    ensures { Answers text.now result }
+    ensures { JsonAnswers text.now result }
 {
-    let (found, rest) = element(alloc, MOST_LEVELS, text)?;
+    let (found, rest) = element(alloc, MOST_DEPTH, text)?;
     if !rest.is_empty() {
         return Err(JsonFault::NotJson);
     }
     match found {
         Some(value) => {
-            within_limits(&value);
+            is_value(&value);
             Ok(value)
         }
         None => Err(JsonFault::TooLarge),
     }
 }
-
-/// A text has one answer, but for want of memory.
-pub fn one_answer()
-    ensures { (text : Bytes) (a b : Result Value JsonFault) →
-        Answers text a → Answers text b → a ≢ Err Memory → b ≢ Err Memory → a ≡ b }
-{}
 
 /// A value with blanks around it, of at most `room` levels.
 #[cycle(element)]
@@ -142,17 +130,6 @@ fn with_item(items: Option<List>, item: Option<Value>) -> Result<Option<List>, J
     }
 }
 
-/// What can't be kept is left out, unless memory was wanting.
-fn left_out<T>(fault: ValueFault) -> Result<Option<T>, JsonFault>
-    ensures ok { IfOk result (λ kept. (kept ≡ None) × (fault ≢ NoRoom)) }
-    ensures err { IfErr result (λ e. e ≡ Memory) }
-{
-    match fault {
-        ValueFault::Memory => Err(JsonFault::Memory),
-        _ => Ok(None),
-    }
-}
-
 /// What stands behind `{`, with values of at most `room` levels.
 #[cycle(element)]
 fn object(alloc: Global, room: u32, text: &[u8]) -> Result<(Option<Value>, &[u8]), JsonFault>
@@ -164,16 +141,16 @@ fn object(alloc: Global, room: u32, text: &[u8]) -> Result<(Option<Value>, &[u8]
         return Ok((Some(Value::Object(Object::new(alloc))), &inner[1..]));
     }
     let (members, rest) = members(alloc, room, text)?;
-    Ok((whole_object(alloc, members)?, rest))
+    Ok((members.finish(alloc)?, rest))
 }
 
 /// One member or more, and `}`.
 #[cycle(element)]
-fn members(alloc: Global, room: u32, text: &[u8]) -> Result<(ObjectBuilder, &[u8]), JsonFault>
+fn members(alloc: Global, room: u32, text: &[u8]) -> Result<(Members, &[u8]), JsonFault>
     requires { room < most_depth }
     ensures { FindsMembers result (listed_within (member_at (element_at room)) 0x7d (suc (length text.now)) text.now) }
 {
-    let mut found = ObjectBuilder::new(alloc);
+    let mut found = Members::new(alloc);
     let mut rest = text;
     'members: loop {
         let (name, value, after) = member(alloc, room, rest)?;
@@ -203,18 +180,6 @@ fn member(
     }
     let (value, rest) = element(alloc, room, &rest[1..])?;
     Ok((name, value, rest))
-}
-
-/// The object of all its members. It is left out where it is too large.
-fn whole_object(alloc: Global, members: ObjectBuilder) -> Result<Option<Value>, JsonFault>
-    ensures ok { IfOk result (λ found. (ms : Pairs) →
-        Stands members ms → data_depth (object_data ms) ≤ most_depth → StandsFor found (object_data ms)) }
-    ensures err { IfErr result (λ e. e ≡ Memory) }
-{
-    match members.finish(alloc) {
-        Ok(object) => Ok(Some(Value::Object(object))),
-        Err(fault) => left_out(fault),
-    }
 }
 
 /// Whether a comma is next. Else it is the closing bracket.
@@ -251,9 +216,9 @@ fn string_value(alloc: Global, text: &[u8]) -> Result<(Option<Value>, &[u8]), Js
     ensures { Finds result (string_data_at text.now) }
 {
     let (bytes, rest) = inside(alloc, text)?;
-    match Text::from_vec(bytes) {
+    match Text::from_vec(alloc, bytes) {
         Ok(text) => Ok((Some(Value::Text(text)), rest)),
-        Err(_) => Ok((None, rest)),
+        Err(fault) => Ok((left_out(fault)?, rest)),
     }
 }
 

@@ -1,10 +1,9 @@
-// Looking at the bytes that are next: blanks, single bytes, digits, and what stands for itself in a string.
-
+//! Looking at the bytes that are next: blanks, single bytes, digits, and what stands for itself in a string.
 ghost use Rattle.std.specs.Prelude.{◌≡◌, ◌<◌, length, true, IsTrue};
 ghost use Rattle.std.specs.Char.{is_ascii_digit};
 ghost use Rattle.std.specs.List.{list_all};
 ghost use Rattle.uq_json.specs.Grammar.{is_blank as spec_is_blank};
-ghost use Rattle.uq_json.specs.Reading.{is_next, skip_blanks as spec_skip_blanks, digits_of, behind_digits, is_verbatim as spec_is_verbatim, verbatim_of, behind_verbatim};
+ghost use Rattle.uq_json.specs.Internal.Reading.{is_next, skip_blanks as spec_skip_blanks, digits_of, behind_digits, is_verbatim as spec_is_verbatim, verbatim_of, behind_verbatim};
 
 /// Whether this byte is next.
 pub(crate) fn next_is(byte: u8, text: &[u8]) -> bool

@@ -1,7 +1,7 @@
 use crate::*;
 use std::alloc::Global;
 use std::process::Abort;
-use uq_value::{Value, depth};
+use uq_value::{List, Text, Value, depth, put_member, same};
 
 /// Reads the text, and compares what is printed of the value.
 fn check_read(rt: &impl Abort, alloc: Global, text: &[u8], want: &[u8]) {
@@ -216,9 +216,8 @@ fn repeated(
     back: &[u8],
 ) -> Vec<u8> {
     let mut text = Vec::from_slice(alloc, front).expect(rt, "memory");
-    for _ in 0..count {
-        text.push(byte).expect(rt, "memory");
-    }
+    text.resize(front.len().saturating_add(count), byte)
+        .expect(rt, "memory");
     text.extend_from_slice(back).expect(rt, "memory");
     text
 }
@@ -375,4 +374,43 @@ fn a_value_has_a_text(rt: HostRuntime) {
             want
         );
     }
+}
+
+/// `{"":[null,false,-1],"a":{"b":"c"}}`, made by the calls of values alone.
+fn made(rt: &impl Abort, alloc: Global) -> Value {
+    let mut list = List::new(alloc);
+    for v in [Value::Null, Value::Bool(false), Value::Int(-1)] {
+        list.push(v).expect(rt, "a list");
+    }
+    let c = Value::Text(Text::new(alloc, b"c").expect(rt, "a text"));
+    let mut inner = Value::Null;
+    put_member(alloc, &mut inner, b"b", c).expect(rt, "a member");
+    let mut value = Value::Null;
+    put_member(alloc, &mut value, b"", Value::List(list)).expect(rt, "a member");
+    put_member(alloc, &mut value, b"a", inner).expect(rt, "a member");
+    value
+}
+
+#[test]
+fn a_whole_value_has_its_text_and_the_text_that_value(rt: HostRuntime) {
+    let alloc = rt.alloc();
+    let value = made(&rt, alloc);
+    let text = b"{\"\":[null,false,-1],\"a\":{\"b\":\"c\"}}";
+    let printed = print_json(alloc, &value).expect(&rt, "its text");
+    assert_eq!(rt; printed.as_slice(), text.as_slice());
+    let read = read_json(alloc, text).expect(&rt, "a value");
+    assert!(rt; same(&read, &value));
+}
+
+#[test]
+fn long_lists_and_names_are_read_and_printed(rt: HostRuntime) {
+    let alloc = rt.alloc();
+    let mut list = repeated(&rt, alloc, b"[", b'[', 0, b"0");
+    for _ in 1..10_000 {
+        list.extend_from_slice(b",0").expect(&rt, "memory");
+    }
+    list.push(b']').expect(&rt, "memory");
+    check_read(&rt, alloc, list.as_slice(), list.as_slice());
+    let name = repeated(&rt, alloc, b"{\"", b'n', 100_000, b"\":1}");
+    check_read(&rt, alloc, name.as_slice(), name.as_slice());
 }

@@ -1,10 +1,9 @@
-// The bytes of a JSON string.
-
+//! The bytes of a JSON string.
 ghost use Rattle.std.specs.Prelude.{◌≡◌};
 ghost use Rattle.uq_value.specs.Data.{Bytes};
 ghost use Rattle.uq_json.specs.Answer.{AnswersString};
 ghost use Rattle.uq_json.specs.Strings.{IsString};
-ghost use Rattle.uq_json.specs.Reading.{Gives, inside_at, string_at};
+ghost use Rattle.uq_json.specs.Internal.Reading.{Gives, inside_at, string_at};
 
 use crate::decoder::Decoder;
 use crate::error::JsonFault;
@@ -24,11 +23,6 @@ pub fn unquote(alloc: Global, text: &[u8]) -> Result<Vec<u8>, JsonFault>
         Err(JsonFault::NotJson)
     }
 }
-
-/// A text is a string of one list of bytes at most. So `unquote` gives back what `quote` was given.
-pub fn one_string()
-    ensures { (text a b : Bytes) → IsString text a → IsString text b → a ≡ b }
-{}
 
 /// The string at the front of the text, and the text behind it.
 pub(crate) fn string(alloc: Global, text: &[u8]) -> Result<(Vec<u8>, &[u8]), JsonFault>

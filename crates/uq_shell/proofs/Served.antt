@@ -5,7 +5,7 @@ use Rattle.std.proofs.Math.Seq.{take-length}
 use Rattle.std.specs.Prelude.{◌==◌, slice_get, IsTrue, if◌then◌else◌}
 use Rattle.std.specs.List.{flat_map}
 use Rattle.std.specs.FinMap as map
-use Rattle.uq_outside.specs.Causes.{Rose}
+use Rattle.uq_facts.specs.Causes.{Rose}
 use Rattle.uq_outside.specs.Streams.{Grows}
 use Rattle.uq_shell.specs.Store.{Store, Session, opened}
 use Rattle.uq_shell.specs.Line.{last_byte, line_after}

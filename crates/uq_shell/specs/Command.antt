@@ -2,6 +2,7 @@
 use Rattle.std.specs.Prelude.{ℕ, Bool, true, false, bytes_eq, ◌||◌, nat_lt, if◌then◌else◌, List, [], ◌∷◌, length, Option, Some, None, codes}
 use Rattle.std.specs.FinMap as map
 use Rattle.uq_shell.specs.Store.{Store, Session, with_present, written, room}
+use Rattle.uq_page.specs.declared.layout.TheConstants.{CELLS_ROOM}
 use Rattle.uq_shell.specs.Line.{line_after}
 use Rattle.uq_json.specs.Quote.{quoted}
 
@@ -54,7 +55,7 @@ request (name ∷ words) =
 
 -- a write is full where the key, the data or the entries that it leaves take too much room
 abbrev pub is_full : List ℕ → List ℕ → Store → Bool
-is_full key value store = nat_lt 1024 (length key) || nat_lt 255 (length value) || nat_lt 4080 (room (written key value store))
+is_full key value store = nat_lt 1024 (length key) || nat_lt 255 (length value) || nat_lt CELLS_ROOM (room (written key value store))
 
 abbrev pub stored : Option ℕ → List ℕ → List ℕ → Session → Answer
 stored last key value session =

@@ -1,11 +1,12 @@
 -- When the files of a disk are a database of a store.
-use Rattle.std.specs.Prelude.{◌≡◌, ◌⊎◌, ℕ, List, [], ◌∷◌, ◌++◌, length, take, map, Some}
+use Rattle.std.specs.Prelude.{◌≡◌, ◌⊎◌, ℕ, ◌*◌, List, [], ◌∷◌, ◌++◌, length, take, map, Some}
 use Rattle.std.specs.Option.{ForSome}
 use Rattle.std.specs.FinMap.{empty, entries}
 use Rattle.uq_outside.specs.declared.disk.Disk.{Ghosts}
 use Rattle.uq_outside.specs.Files.{Files}
 use Rattle.uq_outside.specs.Stops.{Only}
 use Rattle.uq_page.specs.declared.header.Header.{Header}
+use Rattle.uq_page.specs.declared.layout.TheConstants.{PAGE_SIZE}
 use Rattle.uq_page.specs.Header.{IsHeader}
 use Rattle.uq_hash.specs.Map.{Map, Entry, HoldsMap}
 use Rattle.uq_shell.specs.Store.{Store}
@@ -32,8 +33,8 @@ pub record HoldEntries (store : Store) (header : Header) (head bucket : List ℕ
 pub record IsTwoPages (store : Store) (main : List ℕ) : Type 0 where
   pub head : List ℕ
   pub bucket : List ℕ
-  pub head_size : length head ≡ 4096
-  pub bucket_size : length bucket ≡ 4096
+  pub head_size : length head ≡ PAGE_SIZE
+  pub bucket_size : length bucket ≡ PAGE_SIZE
   pub whole : main ≡ head ++ bucket
   pub header : Header
   pub hold : HoldEntries store header head bucket
@@ -69,8 +70,8 @@ pub record IsHeaderOfTwo (page : List ℕ) : Type 0 where
 
 -- a main file of two pages, of which the first is a header that names their number
 pub record HasHeader (main : List ℕ) : Type 0 where
-  pub size : length main ≡ 8192
-  pub first : IsHeaderOfTwo (take 4096 main)
+  pub size : length main ≡ 2 * PAGE_SIZE
+  pub first : IsHeaderOfTwo (take PAGE_SIZE main)
 
 -- The files have the shape of a database: there is no journal, and the main file is empty or has a header.
 pub record HaveShape (files : Files) : Type 0 where

@@ -1,6 +1,7 @@
 -- What a database in memory keeps.
-use Rattle.std.specs.Prelude.{◌≡◌, ℕ, List, [], ◌∷◌, ◌++◌, true, drop, slice_set}
+use Rattle.std.specs.Prelude.{◌≡◌, ℕ, ◌*◌, List, [], ◌∷◌, ◌++◌, true, drop, slice_set}
 use Rattle.uq_outside.specs.Files.{Files}
+use Rattle.uq_page.specs.declared.layout.TheConstants.{PAGE_SIZE}
 use Rattle.uq_page.specs.Header.{IsHeader}
 use Rattle.uq_page.specs.MemPages.{pages_in}
 use Rattle.uq_shell.specs.Store.{Store}
@@ -16,7 +17,7 @@ pub record Keeps (database : Database) (store : Store) : Type 0 where
 
 -- two pages written over a main file
 abbrev pub with_pages : List ℕ → List ℕ → Files → Files
-with_pages head bucket files = record files { main = head ++ bucket ++ drop 8192 files.main }
+with_pages head bucket files = record files { main = head ++ bucket ++ drop (2 * PAGE_SIZE) files.main }
 
 -- The page of the header stands in front of the pages, and a commit is owed.
 pub record WritesHead (old new : Database) : Type 0 where

@@ -7,8 +7,8 @@ ghost use Rattle.uq_page.specs.Header.{IsInUse};
 
 use crate::fault::{FetchFault, StoreFault};
 use std::alloc::{AllocError, Global};
-use uq_hash::{find, fits, insert};
-use uq_page::{ChainFault, Header, MemPages, Page, Pages, PagesFault, write_header};
+use uq_hash::{apart_from_header, find, fits, insert};
+use uq_page::{CELLS_ROOM, ChainFault, Header, MemPages, Page, Pages, PagesFault, write_header};
 
 /// The longest key, and the longest data, in bytes.
 const MOST_KEY: usize = 1024;
@@ -28,7 +28,7 @@ pub struct Database {
 
     // A header and a bucket.
     ghost two: { size_in pages ≡ 2 },
-    ghost in_use: { IsInUse header.version },
+    ghost in_use: { IsInUse header },
 
     // No call of the pages fails.
     ghost sound: { is_sound_now pages ≡ true },
@@ -89,10 +89,10 @@ impl Database {
     fn put(&mut self, alloc: Global, stored: &[u8], value: &[u8]) -> Result<(), StoreFault>
         requires key { 1 ≤ length stored.now }
         requires key_end { length stored.now ≤ 3001 }
-        requires value { length value.now ≤ 255 }
+        requires value { length value.now ≤ MOST_DATA }
         requires entries { self.old.header.entries ≤ 2 ^ 25 }
         requires bytes { self.old.header.bytes ≤ 2 ^ 31 }
-        requires room { WhereHeld (told self.old.pages) self.old.header (λ m. cells_len (map.insert m stored.now value.now) ≤ 4080) }
+        requires room { WhereHeld (told self.old.pages) self.old.header (λ m. cells_len (map.insert m stored.now value.now) ≤ CELLS_ROOM) }
         ensures keeps { OnOk result ((store : Store) (key : List ℕ) → stored.now ≡ KEYS ∷ key → Keeps self.old store → Keeps self.new (written key value.now store)) }
         ensures begun { OnOk result (self.new.is_begun ≡ true) }
         ensures full { result ≡ Err StoreFault.Full → ⊥ }
@@ -102,6 +102,7 @@ impl Database {
         match insert(alloc, &mut self.pages, &mut header, stored, value) {
             Ok(_) => {
                 self.header = header;
+                apart_from_header();
                 self.write_head()
             }
             Err(fault) => Err(refusal(fault)),

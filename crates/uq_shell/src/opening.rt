@@ -1,8 +1,8 @@
 //! The database of a disk, taken into memory.
-ghost use Rattle.std.specs.Prelude.{◌≡◌, ◌+◌, ◌≤◌, ◌∷◌, [], ℕ, true, false, length, take, drop, OnOk, IfOk, IfErr, IfSome, Err};
+ghost use Rattle.std.specs.Prelude.{◌≡◌, ◌+◌, ◌*◌, ◌≤◌, ◌∷◌, [], ℕ, true, false, length, take, drop, OnOk, IfOk, IfErr, IfSome, Err};
 ghost use Rattle.std.specs.Option.{ForSome};
 ghost use Rattle.std.specs.FinMap.{empty};
-ghost use Rattle.uq_outside.specs.Causes.{Rose, HasCause};
+ghost use Rattle.uq_facts.specs.Causes.{Rose, HasCause};
 ghost use Rattle.uq_outside.specs.Stops.{Only};
 ghost use Rattle.uq_page.specs.Page.{bytes_of};
 ghost use Rattle.uq_page.specs.MemPages.{pages_in, fails_in, is_sound_now};
@@ -16,10 +16,10 @@ use crate::fault::OpenFault;
 use std::alloc::Global;
 use uq_hash::create;
 use uq_outside::{Disk, DiskFault, FileNo};
-use uq_page::{MemPages, Page, Pages, PagesFault, read_header};
+use uq_page::{MemPages, PAGE_SIZE, Page, Pages, PagesFault, read_header};
 
 /// The bytes of a page.
-const PAGE: u64 = 4096;
+const PAGE: u64 = PAGE_SIZE as u64;
 
 /// Binds the disk to this name, and takes its database into memory. It changes nothing on the disk.
 pub fn open<D: Disk>(alloc: Global, disk: &mut D, name: &str) -> Result<Database, OpenFault>
@@ -69,7 +69,7 @@ fn make_empty(alloc: Global) -> Result<Database, OpenFault>
 
 /// The database whose main file has two pages.
 fn take_in<D: Disk>(alloc: Global, disk: &mut D) -> Result<Database, OpenFault>
-    requires { ForSome (D.content disk.old) (λ files. length files.main ≡ 8192) }
+    requires { ForSome (D.content disk.old) (λ files. length files.main ≡ 2 * PAGE_SIZE) }
     ensures same { D.content disk.new ≡ D.content disk.old }
     ensures stop { Only (D.may_leave disk.old) (D.may_leave disk.new) }
     ensures keeps { IfOk result (λ database. (store : Store) → Holds D.Disk disk.old store → Keeps database store) }
@@ -122,13 +122,13 @@ fn pages_of(alloc: Global, head: &Page, bucket: &Page) -> Option<MemPages>
 
 /// The page of the main file that begins at this byte.
 fn read_page<D: Disk>(disk: &mut D, at: u64) -> Result<Page, DiskFault>
-    requires { ForSome (D.content disk.old) (λ files. at + 4096 ≤ length files.main) }
-    ensures page { IfOk result (λ page. ForSome (D.content disk.old) (λ files. bytes_of page ≡ take 4096 (drop at files.main))) }
+    requires { ForSome (D.content disk.old) (λ files. at + PAGE_SIZE ≤ length files.main) }
+    ensures page { IfOk result (λ page. ForSome (D.content disk.old) (λ files. bytes_of page ≡ take PAGE_SIZE (drop at files.main))) }
     ensures same { D.content disk.new ≡ D.content disk.old }
     ensures stop { Only (D.may_leave disk.old) (D.may_leave disk.new) }
     ensures cause { HasCause (D.faults disk.old) (D.faults disk.new) result }
 {
-    let mut bytes = [0; 4096];
+    let mut bytes = [0; PAGE_SIZE];
     disk.read(FileNo::Main, at, &mut bytes)?;
     Ok(Page::from_bytes(bytes))
 }

@@ -1,7 +1,7 @@
 //! A run of the program, from its words to its exit status.
 ghost use Rattle.std.specs.Prelude.{◌≡◌, ◌⊎◌, ◌↔◌, ◌≤◌, ℕ, true, false, List, [], ◌∷◌, length, map, take, drop, string_bytes, IsTrue, IfOk, OnOk, IfErr, Err, Option, None, Vec};
 ghost use Rattle.std.specs.Option.{ForSome};
-ghost use Rattle.uq_outside.specs.Causes.{Rose};
+ghost use Rattle.uq_facts.specs.Causes.{Rose};
 ghost use Rattle.uq_shell.specs.Store.{Store, opened};
 ghost use Rattle.uq_shell.specs.Database.{Holds, HoldsNone, HaveShape, IsDurable, IsSettled, IsStill};
 ghost use Rattle.uq_shell.specs.Keeps.{Keeps};

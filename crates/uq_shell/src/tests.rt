@@ -4,6 +4,10 @@ use std::fs;
 use std::process::Abort;
 use std::test::Fail;
 use uq_outside::{Disk, FileDisk, FileNo, MemDisk, MemSink, SureSource};
+use uq_page::PAGE_SIZE;
+
+/// The length of a main file.
+const TWO_PAGES: usize = 2 * PAGE_SIZE;
 
 /// Runs words over a disk, into a sink, with no input.
 fn obey<D: Disk>(
@@ -253,7 +257,7 @@ fn an_ending_line_that_is_cut_keeps_its_status(rt: HostRuntime) -> Result<(), Fa
     let whole = stored(rt.alloc())?;
     let full = whole.file(FileNo::Main);
     // The words, the main file, the disk's call that fails, the bytes that are put, and the status.
-    let zeros = [0; 4096];
+    let zeros = [0; PAGE_SIZE];
     let runs: [(&[&str], &[u8], u64, &[u8], Status); 7] = [
         (&["t.db"], b"", 0, b"", Status::Usage),
         (&["t.db"], b"", 0, b"usage", Status::Usage),
@@ -280,9 +284,9 @@ fn an_ending_line_that_is_cut_keeps_its_status(rt: HostRuntime) -> Result<(), Fa
 
 #[test]
 fn other_files_are_no_database(rt: HostRuntime) -> Result<(), Fail> {
-    let zeros = [0; 8192];
+    let zeros = [0; TWO_PAGES];
     let files: [(&[u8], &[u8]); 4] = [
-        (&zeros[..4096], b""),
+        (&zeros[..PAGE_SIZE], b""),
         (&zeros, b""),
         (b"UQ jx9 database\n", b""),
         (b"", b"\0"),
@@ -313,7 +317,7 @@ fn the_first_word_names_the_files(rt: HostRuntime) -> Result<(), Fail> {
         assert_eq!(rt; out.written(), bytes, "{words:?}");
     }
     for name in ["uq_shell_test/a.db", "uq_shell_test/b.db"] {
-        assert_eq!(rt; fs::read(&rt, name)?.len(), 8192, "{name}");
+        assert_eq!(rt; fs::read(&rt, name)?.len(), TWO_PAGES, "{name}");
     }
     fs::remove_dir_all(&rt, "uq_shell_test")?;
     Ok(())

@@ -4,9 +4,8 @@ use Rattle.uq_value.specs.Data.{Bytes, Data, Datas, Pairs, items_of, members_of}
 use Rattle.uq_value.specs.Depth.{data_depth, items_depth, members_depth}
 use Rattle.uq_value.specs.Plain.{plain, value_of, depth}
 use Rattle.uq_value.specs.Reading.{find, find_member}
-use Rattle.uq_value.specs.Put.{Put, Key, item, member, then_put, key, child, with_child, with_member, at_child, put_within}
+use Rattle.uq_value.specs.Put.{Put, Key, nth, named, then_put, key, child, with_child, with_member, at_child, put_within}
 use Rattle.uq_value.specs.declared.value.Value.{Value}
-use Rattle.uq_value.specs.declared.value.Value.TheVariants.{Null, Bool as Bool', Int, Text, List as List', Object as Object'}
 use Rattle.uq_value.specs.declared.step.Step.{Step}
 use Rattle.uq_value.proofs.Levels.{plain-value_of}
 use Rattle.uq_value.proofs.Level.{ok_inj}
@@ -46,50 +45,50 @@ above : {a b c : ℕ} → Between a b c → Between (1 + a) (1 + b) (1 + c)
 above o = record { least = omega (arith, o.least); most = omega (arith, o.most) }
 
 pub child-deepens : (k : Key) (w v : Value) → Between (depth v) (1 + depth w) (depth (with_child k w v))
-child-deepens (item k) w (List' ds) = above (items-with (nat_lt k (length ds)) k (plain w) ds refl)
-child-deepens (item k) w Null = record { least = omega arith; most = omega arith }
-child-deepens (item k) w (Bool' b) = record { least = omega arith; most = omega arith }
-child-deepens (item k) w (Int z) = record { least = omega arith; most = omega arith }
-child-deepens (item k) w (Text bs) = record { least = omega arith; most = omega arith }
-child-deepens (item k) w (Object' ms) = record { least = omega arith; most = omega arith }
-child-deepens (member name) w (Object' ms) = above (members-with name (plain w) ms)
-child-deepens (member name) w Null = record { least = omega arith; most = omega arith }
-child-deepens (member name) w (Bool' b) = record { least = omega arith; most = omega arith }
-child-deepens (member name) w (Int z) = record { least = omega arith; most = omega arith }
-child-deepens (member name) w (Text bs) = record { least = omega arith; most = omega arith }
-child-deepens (member name) w (List' ds) = record { least = omega arith; most = omega arith }
+child-deepens (nth k) w (Value.List ds) = above (items-with (nat_lt k (length ds)) k (plain w) ds refl)
+child-deepens (nth k) w Value.Null = record { least = omega arith; most = omega arith }
+child-deepens (nth k) w (Value.Bool b) = record { least = omega arith; most = omega arith }
+child-deepens (nth k) w (Value.Int z) = record { least = omega arith; most = omega arith }
+child-deepens (nth k) w (Value.Text bs) = record { least = omega arith; most = omega arith }
+child-deepens (nth k) w (Value.Object ms) = record { least = omega arith; most = omega arith }
+child-deepens (named name) w (Value.Object ms) = above (members-with name (plain w) ms)
+child-deepens (named name) w Value.Null = record { least = omega arith; most = omega arith }
+child-deepens (named name) w (Value.Bool b) = record { least = omega arith; most = omega arith }
+child-deepens (named name) w (Value.Int z) = record { least = omega arith; most = omega arith }
+child-deepens (named name) w (Value.Text bs) = record { least = omega arith; most = omega arith }
+child-deepens (named name) w (Value.List ds) = record { least = omega arith; most = omega arith }
 
 -- ---- what stands there is less deep
 
 one-level : (d : Data) → depth (value_of d) ≡ data_depth d
 one-level d = ap (λ e. data_depth e) (plain-value_of d)
 
-item-depth : (ds : Datas) (k : ℕ) → depth (unwrap_or (option_map value_of (slice_get ds k)) Null) ≤ items_depth (items_of ds)
+item-depth : (ds : Datas) (k : ℕ) → depth (unwrap_or (option_map value_of (slice_get ds k)) Value.Null) ≤ items_depth (items_of ds)
 item-depth [] k = omega arith
 item-depth (d ∷ ds) zero = omega (arith, one-level d)
 item-depth (d ∷ ds) (suc k) = omega (arith, item-depth ds k)
 
-member-depth : (name : Bytes) (ms : Pairs) → depth (unwrap_or (find_member name ms) Null) ≤ members_depth (members_of ms)
+member-depth : (name : Bytes) (ms : Pairs) → depth (unwrap_or (find_member name ms) Value.Null) ≤ members_depth (members_of ms)
 member-depth name [] = omega arith
 member-depth name (m ∷ ms) = split (member-depth name ms) (bytes_eq m.0 name)
   where
-    split : depth (unwrap_or (find_member name ms) Null) ≤ members_depth (members_of ms) → (b : Bool) → depth (unwrap_or (option_map value_of (if b then Some m.1 else find name ms)) Null) ≤ members_depth (members_of (m ∷ ms))
+    split : depth (unwrap_or (find_member name ms) Value.Null) ≤ members_depth (members_of ms) → (b : Bool) → depth (unwrap_or (option_map value_of (if b then Some m.1 else find name ms)) Value.Null) ≤ members_depth (members_of (m ∷ ms))
     split o true = omega (arith, one-level m.1)
     split o false = omega (arith, o)
 
 pub child-depth : (k : Key) (v : Value) → 1 + depth (child k v) ≤ max (depth v) 1
-child-depth (item k) (List' ds) = omega (arith, item-depth ds k)
-child-depth (item k) Null = omega arith
-child-depth (item k) (Bool' b) = omega arith
-child-depth (item k) (Int z) = omega arith
-child-depth (item k) (Text bs) = omega arith
-child-depth (item k) (Object' ms) = omega arith
-child-depth (member name) (Object' ms) = omega (arith, member-depth name ms)
-child-depth (member name) Null = omega arith
-child-depth (member name) (Bool' b) = omega arith
-child-depth (member name) (Int z) = omega arith
-child-depth (member name) (Text bs) = omega arith
-child-depth (member name) (List' ds) = omega arith
+child-depth (nth k) (Value.List ds) = omega (arith, item-depth ds k)
+child-depth (nth k) Value.Null = omega arith
+child-depth (nth k) (Value.Bool b) = omega arith
+child-depth (nth k) (Value.Int z) = omega arith
+child-depth (nth k) (Value.Text bs) = omega arith
+child-depth (nth k) (Value.Object ms) = omega arith
+child-depth (named name) (Value.Object ms) = omega (arith, member-depth name ms)
+child-depth (named name) Value.Null = omega arith
+child-depth (named name) (Value.Bool b) = omega arith
+child-depth (named name) (Value.Int z) = omega arith
+child-depth (named name) (Value.Text bs) = omega arith
+child-depth (named name) (Value.List ds) = omega arith
 
 -- ---- a whole write
 

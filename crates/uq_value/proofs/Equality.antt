@@ -5,11 +5,12 @@ use Rattle.std.proofs.lemmas.Slice.Eq.{bytes_eq-Decides}
 use Rattle.std.specs.Bool.{Decides}
 use Rattle.std.specs.Str.{bytes_eq}
 use Rattle.uq_value.proofs.Levels.{value_of-plain}
-use Rattle.uq_value.specs.Data.{Data, null, boolean, whole, text, sequence, mapping, Items, no_items, item, Members, no_members, member, items_of, members_of}
+use Rattle.uq_value.specs.Data.{Data, null, bool, int, text, sequence, mapping, Items, no_items, item, Members, no_members, member, items_of, members_of}
 use Rattle.uq_value.specs.Plain.{plain, value_of}
-use Rattle.uq_value.specs.Kept.{plain_member}
+use Rattle.uq_value.specs.Internal.Kept.{plain_member}
 use Rattle.uq_value.specs.Same.{same, alike, data_same, items_same, members_same}
 use Rattle.uq_value.specs.declared.value.Value.{Value}
+use Rattle.uq_value.specs.Internal.Names.{name_of}
 use Rattle.uq_value.specs.declared.object.Member.{Member}
 
 -- the values from a place on are the same in both
@@ -36,7 +37,7 @@ pub fields-apart : (ms ns : List Member) → (length ms ≡ length ns → ⊥) �
 fields-apart [] [] h = absurd (h refl)
 fields-apart [] (n ∷ ns) h = refl
 fields-apart (m ∷ ms) [] h = refl
-fields-apart (m ∷ ms) (n ∷ ns) h = ap (λ b. bytes_eq m.name n.name && same m.value n.value && b) (fields-apart ms ns (λ e. h (omega (arith, e)))) ∙ never (bytes_eq m.name n.name && same m.value n.value)
+fields-apart (m ∷ ms) (n ∷ ns) h = ap (λ b. bytes_eq (name_of m) (name_of n) && same m.value n.value && b) (fields-apart ms ns (λ e. h (omega (arith, e)))) ∙ never (bytes_eq (name_of m) (name_of n) && same m.value n.value)
   where
     never : (b : Bool) → (b && false) ≡ false
     never true = refl
@@ -61,8 +62,8 @@ right-true false b h = cc
 mutual
   data-sound : (d e : Data) → data_same d e ≡ true → d ≡ e
   data-sound null null h = refl
-  data-sound (boolean a) (boolean b) h = ap boolean ((alike-Decides a b).0 h)
-  data-sound (whole a) (whole b) h = ap whole ((Decides-int_eq a b).0 h)
+  data-sound (bool a) (bool b) h = ap bool ((alike-Decides a b).0 h)
+  data-sound (int a) (int b) h = ap int ((Decides-int_eq a b).0 h)
   data-sound (text a) (text b) h = ap text ((bytes_eq-Decides a b).0 h)
   data-sound (sequence ds) (sequence es) h = ap sequence (items-sound ds es h)
   data-sound (mapping ms) (mapping ns) h = ap mapping (members-sound ms ns h)
@@ -92,8 +93,8 @@ both-true a b p q = ap (λ x. x && b) p ∙ q
 mutual
   data-same : (d : Data) → data_same d d ≡ true
   data-same null = refl
-  data-same (boolean a) = (alike-Decides a a).1 refl
-  data-same (whole a) = (Decides-int_eq a a).1 refl
+  data-same (bool a) = (alike-Decides a a).1 refl
+  data-same (int a) = (Decides-int_eq a a).1 refl
   data-same (text a) = (bytes_eq-Decides a a).1 refl
   data-same (sequence ds) = items-same ds
   data-same (mapping ms) = members-same ms

@@ -2,7 +2,7 @@
 use Rattle.std.proofs.Common.{◌≡◌, ◌≤◌, ◌+◌, ◌-◌, ℕ, refl, sym, ap, ◌∙◌, arith, subst, Bool, true, false, nat_lt, if◌then◌else◌, List, Ok, Err}
 use Rattle.uq_value.specs.Plain.{plain, size}
 use Rattle.uq_value.specs.Put.{Put, Key, then_put, child, with_child, put_within}
-use Rattle.uq_value.specs.Writing.{fits, put_in, put_at}
+use Rattle.uq_value.specs.Internal.Writing.{fits, put_in, put_at}
 use Rattle.uq_value.specs.Faults.{Refuses}
 use Rattle.uq_value.specs.declared.value.Value.{Value}
 use Rattle.uq_value.specs.declared.step.Step.{Step}

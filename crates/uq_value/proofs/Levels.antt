@@ -1,94 +1,55 @@
 -- One level of some data, and back.
-use Rattle.std.proofs.Common.{◌≡◌, refl, ap, sym, ◌∙◌, ℕ, List, [], ◌∷◌, map, Some, option_map, slice_get, lit≤, true, false, if◌then◌else◌, bytes_eq}
-use Rattle.std.specs.List.{find}
+use Rattle.std.proofs.Common.{◌≡◌, refl, ap, sym, ◌∙◌, ℕ, List, [], ◌∷◌, map, option_map, slice_get, lit≤}
 use Rattle.std.proofs.lemmas.Option.{slice_get-map}
-use Rattle.uq_value.specs.Data.{Bytes, Data, Datas, Pairs, Items, no_items, item, Members, no_members, member, items_of, list_of, members_of, pairs_of, list, object, null, boolean, whole, text, sequence, mapping}
+use Rattle.uq_value.specs.Data.{Bytes, list, object}
 use Rattle.uq_value.specs.Size.{leb_size, data_size}
 use Rattle.uq_value.specs.Depth.{data_depth}
-use Rattle.uq_value.specs.Plain.{plain, value_of, items, members}
-use Rattle.uq_value.specs.Kept.{plain_member, IsList, IsObject}
-use Rattle.uq_value.specs.Reading.{find as find_pair, find_member}
+use Rattle.uq_value.specs.Plain.{plain, members, depth}
+use Rattle.uq_value.specs.Internal.Kept.{plain_member, IsList, IsObject}
+use Rattle.uq_value.specs.Internal.Names.{name_of, names, member_depth}
+use Rattle.uq_value.specs.Internal.Beside.{CountsAre, NamesAre}
 use Rattle.uq_value.specs.declared.value.Value.{Value}
-use Rattle.uq_value.specs.declared.value.Value.TheVariants.{Null, Bool as Bool', Int, Text, List as List', Object as Object'}
 use Rattle.uq_value.specs.declared.object.Member.{Member}
 use Rattle.uq_value.specs.declared.list.List.TheInside.{Inside as InList}
 use Rattle.uq_value.specs.declared.object.Object.TheInside.{Inside as InObject}
+pub use Rattle.uq_value.specs.Laws.Levels.{list_of-items_of, items_of-list_of, pairs_of-members_of, members_of-pairs_of, value_of-plain, plain-value_of, items-plain}
 
-pub list_of-items_of : (ds : Datas) → list_of (items_of ds) ≡ ds
-list_of-items_of [] = refl
-list_of-items_of (d ∷ ds) = ap (λ es. d ∷ es) (list_of-items_of ds)
-
-pub items_of-list_of : (ds : Items) → items_of (list_of ds) ≡ ds
-items_of-list_of no_items = refl
-items_of-list_of (item d ds) = ap (item d) (items_of-list_of ds)
-
-pub pairs_of-members_of : (ms : Pairs) → pairs_of (members_of ms) ≡ ms
-pairs_of-members_of [] = refl
-pairs_of-members_of (m ∷ ms) = ap (λ ns. m ∷ ns) (pairs_of-members_of ms)
-
-pub members_of-pairs_of : (ms : Members) → members_of (pairs_of ms) ≡ ms
-members_of-pairs_of no_members = refl
-members_of-pairs_of (member n d ms) = ap (member n d) (members_of-pairs_of ms)
-
-pub value_of-plain : (v : Value) → value_of (plain v) ≡ v
-value_of-plain Null = refl
-value_of-plain (Bool' b) = refl
-value_of-plain (Int z) = refl
-value_of-plain (Text bs) = refl
-value_of-plain (List' ds) = ap List' (list_of-items_of ds)
-value_of-plain (Object' ms) = ap Object' (pairs_of-members_of ms)
-
-pub plain-value_of : (d : Data) → plain (value_of d) ≡ d
-plain-value_of null = refl
-plain-value_of (boolean b) = refl
-plain-value_of (whole z) = refl
-plain-value_of (text bs) = refl
-plain-value_of (sequence ds) = ap sequence (items_of-list_of ds)
-plain-value_of (mapping ms) = ap mapping (members_of-pairs_of ms)
-
--- the values in a list are those that the code keeps
-pub items-plain : (vs : List Value) → items (map plain vs) ≡ vs
-items-plain [] = refl
-items-plain (v ∷ vs) = λ i. value_of-plain v i ∷ items-plain vs i
-
-pub members-plain : (ms : List Member) → members (map plain_member ms) ≡ map (λ m. (m.name, m.value)) ms
+-- the members of an object are those that the code keeps
+pub members-plain : (ms : List Member) → members (map plain_member ms) ≡ map (λ m. (name_of m, m.value)) ms
 members-plain [] = refl
-members-plain (m ∷ ms) = λ i. (m.name, value_of-plain m.value i) ∷ members-plain ms i
+members-plain (m ∷ ms) = λ i. (name_of m, value_of-plain m.value i) ∷ members-plain ms i
 
 -- ---- the empty ones
 
-pub no_list : (l : InList) → l.items.items ≡ [] → l.size ≡ 2 → l.depth ≡ 1 → IsList l
+pub no_list : (l : InList) → l.items.items ≡ [] → l.kept.size ≡ 2 → l.kept.depth ≡ 1 → ((ds : List ℕ) → CountsAre l.kept ds) → IsList l
 unfolding leb_size
-no_list l e s d =
+no_list l e s d c =
     record {
       size_is = s ∙ ap (λ vs. data_size (list (map plain vs))) (sym e);
       depth_is = d ∙ ap (λ vs. data_depth (list (map plain vs))) (sym e);
       size_within = rw s (lit≤ tt);
       depth_within = rw d (lit≤ tt);
+      counts = c (map depth l.items.items);
+      sound = rw e tt;
     }
 
-pub no_object : (o : InObject) → o.members.items ≡ [] → o.size ≡ 2 → o.depth ≡ 1 → IsObject o
+pub no_object : (o : InObject) → o.members.items ≡ [] → o.kept.size ≡ 2 → o.kept.depth ≡ 1 → ((ds : List ℕ) → CountsAre o.kept ds) → ((ns : List Bytes) → NamesAre o.kept ns) → IsObject o
 unfolding leb_size
-no_object o e s d =
+no_object o e s d c n =
     record {
       size_is = s ∙ ap (λ ms. data_size (object (map plain_member ms))) (sym e);
       depth_is = d ∙ ap (λ ms. data_depth (object (map plain_member ms))) (sym e);
       size_within = rw s (lit≤ tt);
       depth_within = rw d (lit≤ tt);
-      names = rw e tt;
+      counts = c (map member_depth o.members.items);
+      index = n (names o.members.items);
+      distinct = rw e tt;
+      sound = rw e tt;
     }
 
--- ---- members by name
-
-pub find-plain : (name : Bytes) (ms : List Member) → find_member name (map plain_member ms) ≡ option_map (λ m. m.value) (find (λ m. bytes_eq m.name name) ms)
-find-plain name [] = refl
-find-plain name (m ∷ ms) =
-    elim (bytes_eq m.name name) as (λ b. option_map value_of (if b then Some (plain m.value) else find_pair name (map plain_member ms)) ≡ option_map (λ m. m.value) (if b then Some m else find (λ m. bytes_eq m.name name) ms))
-    [ true ↦ ap Some (value_of-plain m.value) | false ↦ find-plain name ms ]
-
 name_and_value : Member → Bytes × Value
-name_and_value m = (m.name, m.value)
+name_and_value m = (name_of m, m.value)
 
-pub member-at : (ms : List Member) (at : ℕ) → slice_get (members (map plain_member ms)) at ≡ option_map (λ m. (m.name, m.value)) (slice_get ms at)
+pub member-at : (ms : List Member) (at : ℕ) → slice_get (members (map plain_member ms)) at ≡ option_map (λ m. (name_of m, m.value)) (slice_get ms at)
 unfolding name_and_value
 member-at ms at = ap (λ ns. slice_get ns at) (members-plain ms) ∙ slice_get-map name_and_value ms at

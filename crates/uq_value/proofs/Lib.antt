@@ -1,12 +1,14 @@
 pub mod Levels
+pub mod Sound
 pub mod Leb
 pub mod Digits
 pub mod Equality
 pub mod Totals
 pub mod Wholes
 pub mod Named
+pub mod Counted
 pub mod Fields
-pub mod Deepest
+pub mod ByName
 pub mod Limits
 pub mod Level
 pub mod Deeper
@@ -14,5 +16,9 @@ pub mod ListWrite
 pub mod ObjectWrite
 pub mod Steps
 pub mod Puts
-pub mod SlotLaws
-pub mod Halves
+pub mod Keys
+pub mod Rows
+pub mod NamePlaces
+pub mod Searches
+pub mod Edits
+pub mod Tallies

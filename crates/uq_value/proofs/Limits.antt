@@ -5,9 +5,8 @@ use Rattle.uq_value.specs.Depth.{most_depth, data_depth}
 use Rattle.uq_value.specs.Data.{Datas, list}
 use Rattle.uq_value.specs.Plain.{plain, size, depth}
 use Rattle.uq_value.specs.Put.{Put, limited}
-use Rattle.uq_value.specs.Writing.{PushFits, size_beside_next}
+use Rattle.uq_value.specs.Internal.Writing.{PushFits, size_beside_next}
 use Rattle.uq_value.specs.declared.value.Value.{Value}
-use Rattle.uq_value.specs.declared.value.Value.TheVariants.{List as List'}
 use Rattle.uq_value.specs.declared.error.ValueFault.TheVariants.{TooDeep, TooLarge}
 use Rattle.uq_value.proofs.Wholes.{list-size-push, list-depth-push}
 
@@ -35,14 +34,14 @@ allowed w d h = ap (λ b. bounded b (nat_lt most_size (size w)) w) (not_above mo
 -- ---- a list with one value more
 
 module _ (ds : Datas) (v : Value) where
-  pub push-too_deep : most_depth ≤ depth v → limited (List' (ds ++ plain v ∷ [])) ≡ Err TooDeep
-  push-too_deep h = too_deep (List' (ds ++ plain v ∷ [])) (omega (arith, list-depth-push ds (plain v)))
+  pub push-too_deep : most_depth ≤ depth v → limited (Value.List (ds ++ plain v ∷ [])) ≡ Err TooDeep
+  push-too_deep h = too_deep (Value.List (ds ++ plain v ∷ [])) (omega (arith, list-depth-push ds (plain v)))
 
-  pub push-too_large : data_depth (list ds) ≤ most_depth → depth v < most_depth → most_size < size_beside_next ds + size v → limited (List' (ds ++ plain v ∷ [])) ≡ Err TooLarge
-  push-too_large k d h = too_large (List' (ds ++ plain v ∷ [])) (omega (arith, list-depth-push ds (plain v))) (omega (arith, list-size-push ds (plain v)))
+  pub push-too_large : data_depth (list ds) ≤ most_depth → depth v < most_depth → most_size < size_beside_next ds + size v → limited (Value.List (ds ++ plain v ∷ [])) ≡ Err TooLarge
+  push-too_large k d h = too_large (Value.List (ds ++ plain v ∷ [])) (omega (arith, list-depth-push ds (plain v))) (omega (arith, list-size-push ds (plain v)))
 
-  pub push-allowed : data_depth (list ds) ≤ most_depth → PushFits v ds → ◌≡◌ {A = Put Value} (limited (List' (ds ++ plain v ∷ []))) (Ok (List' (ds ++ plain v ∷ [])))
-  push-allowed k r = allowed (List' (ds ++ plain v ∷ [])) (omega (arith, list-depth-push ds (plain v), r.shallow)) (omega (arith, list-size-push ds (plain v), r.small))
+  pub push-allowed : data_depth (list ds) ≤ most_depth → PushFits v ds → ◌≡◌ {A = Put Value} (limited (Value.List (ds ++ plain v ∷ []))) (Ok (Value.List (ds ++ plain v ∷ [])))
+  push-allowed k r = allowed (Value.List (ds ++ plain v ∷ [])) (omega (arith, list-depth-push ds (plain v), r.shallow)) (omega (arith, list-size-push ds (plain v), r.small))
 
-  pub push-gives : (after : Datas) → data_depth (list ds) ≤ most_depth → PushFits v ds → after ≡ ds ++ plain v ∷ [] → ◌≡◌ {A = Put Value} (limited (List' (ds ++ plain v ∷ []))) (Ok (List' after))
-  push-gives after k r e = push-allowed k r ∙ ap (λ es. ok (List' es)) (sym e)
+  pub push-gives : (after : Datas) → data_depth (list ds) ≤ most_depth → PushFits v ds → after ≡ ds ++ plain v ∷ [] → ◌≡◌ {A = Put Value} (limited (Value.List (ds ++ plain v ∷ []))) (Ok (Value.List after))
+  push-gives after k r e = push-allowed k r ∙ ap (λ es. ok (Value.List es)) (sym e)

@@ -5,8 +5,8 @@ use Rattle.uq_value.specs.Size.{most_size}
 use Rattle.uq_value.specs.Depth.{most_depth}
 use Rattle.uq_value.specs.Plain.{depth}
 use Rattle.uq_value.specs.Put.{Put, then_put, put_within, limited, put, key}
-use Rattle.uq_value.specs.Writing.{fits, put_in}
-use Rattle.uq_value.specs.Reaching.{Leads, Refused, reached}
+use Rattle.uq_value.specs.Internal.Writing.{fits, put_in}
+use Rattle.uq_value.specs.Internal.Reaching.{Leads, Refused, reached}
 use Rattle.uq_value.specs.Faults.{Refuses}
 use Rattle.uq_value.specs.declared.value.Value.{Value}
 use Rattle.uq_value.specs.declared.step.Step.{Step}

@@ -3,9 +3,8 @@ use Rattle.std.proofs.Common.{◌≡◌, ◌≤◌, ◌<◌, ◌+◌, ℕ, suc, 
 use Rattle.std.proofs.Math.Seq.{drop-cons}
 use Rattle.std.proofs.lemmas.List.{drop_all}
 use Rattle.uq_value.specs.Put.{Put, Key, key, there, child, with_child, then_put, at_child, put_within}
-use Rattle.uq_value.specs.Reaching.{reached, Leads, Refused}
+use Rattle.uq_value.specs.Internal.Reaching.{reached, Leads, Refused}
 use Rattle.uq_value.specs.declared.value.Value.{Value}
-use Rattle.uq_value.specs.declared.value.Value.TheVariants.{Null}
 use Rattle.uq_value.specs.declared.step.Step.{Step}
 use Rattle.uq_value.specs.declared.error.ValueFault.{ValueFault}
 
@@ -22,16 +21,16 @@ module _ (rest : List Step) (new v : Value) where
   stops e (Err f) p = let same : f ≡ e = cc in ap (λ x. Err x) same
 
   module _ (o : Option Value) where
-    child-is : (k : Key) → ◌≡◌ {A = Put (Option Value)} (Ok (there k v)) (Ok o) → child k v ≡ unwrap_or o Null
+    child-is : (k : Key) → ◌≡◌ {A = Put (Option Value)} (Ok (there k v)) (Ok o) → child k v ≡ unwrap_or o Value.Null
     unfolding there_or
-    child-is k p = ap (λ r. unwrap_or (there_or o r) Null) p
+    child-is k p = ap (λ r. unwrap_or (there_or o r) Value.Null) p
 
-    pub leads : (r : Put Key) → ◌≡◌ {A = Put (Option Value)} (then_put r (λ k. Ok (there k v))) (Ok o) → (w : Value) → put_within rest new (unwrap_or o Null) ≡ Ok w → (u : Value) × (next r ≡ Ok u)
+    pub leads : (r : Put Key) → ◌≡◌ {A = Put (Option Value)} (then_put r (λ k. Ok (there k v))) (Ok o) → (w : Value) → put_within rest new (unwrap_or o Value.Null) ≡ Ok w → (u : Value) × (next r ≡ Ok u)
     leads (Ok k) p w q =
         (with_child k w v, ap (λ x. then_put (put_within rest new x) (λ w. Ok (with_child k w v))) (child-is k p) ∙ ap (λ r. then_put r (λ w. Ok (with_child k w v))) q)
     leads (Err e) p w q = absurd (cc)
 
-    refused : (r : Put Key) → ◌≡◌ {A = Put (Option Value)} (then_put r (λ k. Ok (there k v))) (Ok o) → (e : ValueFault) → put_within rest new (unwrap_or o Null) ≡ Err e → next r ≡ Err e
+    refused : (r : Put Key) → ◌≡◌ {A = Put (Option Value)} (then_put r (λ k. Ok (there k v))) (Ok o) → (e : ValueFault) → put_within rest new (unwrap_or o Value.Null) ≡ Err e → next r ≡ Err e
     refused (Ok k) p e q = ap (λ x. then_put (put_within rest new x) (λ w. Ok (with_child k w v))) (child-is k p) ∙ ap (λ r. then_put r (λ w. Ok (with_child k w v))) q
     refused (Err f) p e q = absurd (cc)
 
@@ -47,7 +46,7 @@ module _ (steps : List Step) (v here : Value) (i : ℕ) (s : Step) (s-is : s ≡
   front : drop i steps ≡ s ∷ drop (i + 1) steps
   front = drop-cons steps i s h ∙ ap (λ x. x ∷ drop (suc i) steps) (sym s-is) ∙ ap (λ n. s ∷ drop n steps) (sym (add-one i))
 
-  pub goes_on : (o : Option Value) → reached s here ≡ Ok o → StandsFor (drop (i + 1) steps) (unwrap_or o Null) steps v
+  pub goes_on : (o : Option Value) → reached s here ≡ Ok o → StandsFor (drop (i + 1) steps) (unwrap_or o Value.Null) steps v
   goes_on o e =
       record {
         leads_on = λ q. so_far.leads_on (subst (λ ss. Leads ss here) (sym front) (λ new. leads (drop (i + 1) steps) new here o (key s here) e (q new).0 (q new).1));
@@ -61,6 +60,6 @@ pub leads_whole : (steps : List Step) (v here : Value) (i : ℕ) → length step
 leads_whole steps v here i h so_far = so_far.leads_on (subst (λ ss. Leads ss here) (sym (drop_all i steps h)) (λ new. (new, refl)))
 
 -- what a reference leads to, or null
-pub now_or : (o : Option (Bor Value)) (d r : Bor Value) → r ≡ unwrap_or o d → d.now ≡ Null → unwrap_or (option_copied o) Null ≡ r.now
+pub now_or : (o : Option (Bor Value)) (d r : Bor Value) → r ≡ unwrap_or o d → d.now ≡ Value.Null → unwrap_or (option_copied o) Value.Null ≡ r.now
 now_or None d r e n = sym (ap (λ b. b.now) e ∙ n)
 now_or (Some x) d r e n = sym (ap (λ b. b.now) e)

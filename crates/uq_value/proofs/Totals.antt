@@ -27,6 +27,10 @@ module _ {A : Type 0} (f : A → ℕ) where
   total-get_or (x ∷ xs) zero d h = omega arith
   total-get_or (x ∷ xs) (suc at) d h = omega (arith, total-get_or xs at d (omega arith))
 
+  pub total-take : (xs : List A) (i : ℕ) (x : A) → x ≡ get_or xs i x → i < length xs → total f (take (i + 1) xs) ≡ total f (take i xs) + f x
+  total-take xs i x e h =
+      ap (λ n. total f (take n xs)) (add-one i) ∙ ap (λ ys. total f ys) (take-suc xs i x h) ∙ total-push (take i xs) (get_or xs i x) ∙ ap (λ y. total f (take i xs) + f y) (sym e)
+
   -- each part weighs something
   pub length-total : ((x : A) → 1 ≤ f x) → (xs : List A) → length xs ≤ total f xs
   length-total one [] = omega arith

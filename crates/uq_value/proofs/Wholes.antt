@@ -1,11 +1,18 @@
 -- The size and depth of lists and objects, from those of their parts.
-use Rattle.std.proofs.Common.{◌≡◌, ◌≤◌, ◌+◌, max, ℕ, refl, ap, ◌∙◌, arith, [], ◌∷◌, ◌++◌, length, length-append}
-use Rattle.uq_value.specs.Data.{Bytes, Data, Datas, Pairs, list, object, items_of, members_of, null, boolean, whole, text, sequence, mapping}
+use Rattle.std.proofs.Common.{◌≡◌, ◌≤◌, ◌+◌, max, ℕ, List, map, refl, ap, ◌∙◌, arith, [], ◌∷◌, ◌++◌, length, length-append}
+use Rattle.uq_value.specs.Data.{Bytes, Data, Datas, Pairs, list, object, items_of, members_of}
 use Rattle.uq_value.specs.Size.{leb_size, name_size, data_size, items_size, members_size}
 use Rattle.uq_value.specs.Depth.{data_depth, items_depth, members_depth}
-use Rattle.uq_value.specs.Writing.{size_beside_next, object_beside_next}
+use Rattle.uq_value.specs.Internal.Writing.{size_beside_next, object_beside_next}
+use Rattle.std.proofs.lemmas.List.{length-map}
+use Rattle.uq_value.specs.Plain.{plain, size, depth}
+use Rattle.uq_value.specs.Internal.Kept.{plain_member}
+use Rattle.uq_value.specs.Internal.Names.{name_of, member_depth}
+use Rattle.uq_value.specs.declared.value.Value.{Value}
+use Rattle.uq_value.specs.declared.object.Member.{Member}
 use Rattle.uq_value.proofs.Levels.{list_of-items_of, pairs_of-members_of}
 use Rattle.uq_value.proofs.Totals.{greatest, total, total-push, length-total, greatest-push}
+pub use Rattle.uq_value.specs.Laws.Growth.{some-size}
 
 abbrev pub pair_size : Bytes × Data → ℕ
 pair_size m = name_size m.0 + data_size m.1
@@ -61,14 +68,6 @@ object-depth-push ms name d = omega (arith, object-depth (ms ++ (name, d) ∷ []
 
 -- ---- each part takes a byte at least
 
-pub some-size : (d : Data) → 1 ≤ data_size d
-some-size null = omega arith
-some-size (boolean b) = omega arith
-some-size (whole z) = omega arith
-some-size (text bs) = omega arith
-some-size (sequence ds) = omega arith
-some-size (mapping ms) = omega arith
-
 some-pair : (m : Bytes × Data) → 1 ≤ pair_size m
 some-pair m = omega (arith, some-size m.1)
 
@@ -77,3 +76,36 @@ list-length ds = omega (arith, list-size ds, length-total data_size some-size ds
 
 pub object-length : (ms : Pairs) → length ms ≤ data_size (object ms)
 object-length ms = omega (arith, object-size ms, length-total pair_size some-pair ms)
+
+-- ---- of what the code keeps
+
+abbrev pub member_size : Member → ℕ
+member_size m = name_size (name_of m) + size m.value
+
+total-items : (vs : List Value) → total data_size (map plain vs) ≡ total size vs
+total-items [] = refl
+total-items (v ∷ vs) = ap (λ n. size v + n) (total-items vs)
+
+total-members : (ms : List Member) → total pair_size (map plain_member ms) ≡ total member_size ms
+total-members [] = refl
+total-members (m ∷ ms) = ap (λ n. member_size m + n) (total-members ms)
+
+greatest-items : (vs : List Value) → greatest data_depth (map plain vs) ≡ greatest depth vs
+greatest-items [] = refl
+greatest-items (v ∷ vs) = ap (λ n. max (depth v) n) (greatest-items vs)
+
+greatest-members : (ms : List Member) → greatest pair_depth (map plain_member ms) ≡ greatest member_depth ms
+greatest-members [] = refl
+greatest-members (m ∷ ms) = ap (λ n. max (member_depth m) n) (greatest-members ms)
+
+pub items-measured : (vs : List Value) → data_size (list (map plain vs)) ≡ 1 + leb_size (length vs) + total size vs
+items-measured vs = list-size (map plain vs) ∙ ap (λ n. 1 + leb_size n + total data_size (map plain vs)) (length-map vs plain) ∙ ap (λ n. 1 + leb_size (length vs) + n) (total-items vs)
+
+pub members-measured : (ms : List Member) → data_size (object (map plain_member ms)) ≡ 1 + leb_size (length ms) + total member_size ms
+members-measured ms = object-size (map plain_member ms) ∙ ap (λ n. 1 + leb_size n + total pair_size (map plain_member ms)) (length-map ms plain_member) ∙ ap (λ n. 1 + leb_size (length ms) + n) (total-members ms)
+
+pub items-depth-is : (vs : List Value) → data_depth (list (map plain vs)) ≡ 1 + greatest depth vs
+items-depth-is vs = list-depth (map plain vs) ∙ ap (λ n. 1 + n) (greatest-items vs)
+
+pub members-depth-is : (ms : List Member) → data_depth (object (map plain_member ms)) ≡ 1 + greatest member_depth ms
+members-depth-is ms = object-depth (map plain_member ms) ∙ ap (λ n. 1 + n) (greatest-members ms)

@@ -9,8 +9,8 @@ Bytes = List ℕ
 mutual
   pub data Data : Type 0 where
     null : Data
-    boolean : Bool → Data
-    whole : ℤ → Data
+    bool : Bool → Data
+    int : ℤ → Data
     text : Bytes → Data
     sequence : Items → Data
     mapping : Members → Data

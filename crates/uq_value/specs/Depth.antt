@@ -1,6 +1,6 @@
 -- The depth of a value: how deep lists and objects nest in it.
 use Rattle.std.specs.Prelude.{ℕ, ◌+◌, max}
-use Rattle.uq_value.specs.Data.{Data, null, boolean, whole, text, sequence, mapping, Items, no_items, item, Members, no_members, member}
+use Rattle.uq_value.specs.Data.{Data, null, bool, int, text, sequence, mapping, Items, no_items, item, Members, no_members, member}
 
 -- no value is deeper
 abbrev pub most_depth : ℕ
@@ -9,8 +9,8 @@ most_depth = 128
 abbrev mutual
   pub data_depth : Data → ℕ
   data_depth null = 0
-  data_depth (boolean b) = 0
-  data_depth (whole z) = 0
+  data_depth (bool b) = 0
+  data_depth (int z) = 0
   data_depth (text bs) = 0
   data_depth (sequence ds) = 1 + items_depth ds
   data_depth (mapping ms) = 1 + members_depth ms

@@ -1,10 +1,8 @@
 pub mod Data
 pub mod Size
 pub mod Depth
-pub mod Codes
+pub mod IsValue
 pub mod Plain
-pub mod Kept
-pub mod Falls
 pub mod Truth
 pub mod Number
 pub mod Reading
@@ -12,9 +10,6 @@ pub mod Same
 pub mod Order
 pub mod Put
 pub mod Faults
-pub mod Writing
 pub mod Places
-pub mod Depths
-pub mod Reaching
-pub mod Slots
-pub mod Halfway
+pub mod Laws
+pub mod Internal

@@ -1,11 +1,10 @@
 -- The number of a value.
-use Rattle.std.specs.Prelude.{ℕ, zero, suc, ◌+◌, ◌*◌, ◌^◌, not, ◌||◌, if◌then◌else◌, ◌==◌, nat_lt, ℤ, pos, negsuc, [], ◌∷◌, Option, Some, None}
+use Rattle.std.specs.Prelude.{Bool, true, false, ℕ, zero, suc, ◌+◌, ◌*◌, ◌^◌, not, ◌||◌, if◌then◌else◌, ◌==◌, nat_lt, ℤ, pos, negsuc, [], ◌∷◌, Option, Some, None}
 use Rattle.std.specs.List.{list_all}
 use Rattle.std.specs.Char.{is_ascii_digit, digit_value}
 use Rattle.uq_value.specs.Data.{Bytes}
 use Rattle.uq_value.specs.Truth.{is_empty}
 use Rattle.uq_value.specs.declared.value.Value.{Value}
-use Rattle.uq_value.specs.declared.value.Value.TheVariants.{Null, Bool as Bool', Int, Text, List as List', Object as Object'}
 
 -- what decimal digits stand for, behind some that stand for n
 abbrev pub digits_value : ℕ → Bytes → ℕ
@@ -27,16 +26,20 @@ negative None = None
 negative (Some zero) = Some (pos zero)
 negative (Some (suc n)) = if nat_lt n (2 ^ 63) then Some (negsuc n) else None
 
+-- the number of a sign and decimal digits
+abbrev pub signed : Bool → Bytes → Option ℤ
+signed is_negative digits = if is_negative then negative (unsigned digits) else positive (unsigned digits)
+
 -- the number of a text of `-`? and decimal digits
 abbrev pub text_number : Bytes → Option ℤ
 text_number [] = None
-text_number (c ∷ cs) = if c == 45 then negative (unsigned cs) else positive (unsigned (c ∷ cs))
+text_number (c ∷ cs) = if c == 45 then signed true cs else signed false (c ∷ cs)
 
 -- null and false are 0, true is 1, a whole number is itself; lists and objects have none
 abbrev pub number : Value → Option ℤ
-number Null = Some (pos 0)
-number (Bool' b) = Some (if b then pos 1 else pos 0)
-number (Int z) = Some z
-number (Text bs) = text_number bs
-number (List' ds) = None
-number (Object' ms) = None
+number Value.Null = Some (pos 0)
+number (Value.Bool b) = Some (if b then pos 1 else pos 0)
+number (Value.Int z) = Some z
+number (Value.Text bs) = text_number bs
+number (Value.List ds) = None
+number (Value.Object ms) = None

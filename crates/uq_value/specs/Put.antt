@@ -8,7 +8,6 @@ use Rattle.uq_value.specs.Depth.{most_depth}
 use Rattle.uq_value.specs.Plain.{plain, size, depth}
 use Rattle.uq_value.specs.Reading.{item_at, find_member}
 use Rattle.uq_value.specs.declared.value.Value.{Value}
-use Rattle.uq_value.specs.declared.value.Value.TheVariants.{Null, Int, Text, List as List', Object as Object'}
 use Rattle.uq_value.specs.declared.step.Step.{Step}
 use Rattle.uq_value.specs.declared.step.Step.TheVariants.{Member, Index, Append}
 use Rattle.uq_value.specs.declared.error.ValueFault.{ValueFault}
@@ -23,39 +22,39 @@ then_put (Err e) f = Err e
 
 -- where a step leads in a list or an object
 pub data Key : Type 0 where
-  item : ℕ → Key
-  member : Bytes → Key
+  nth : ℕ → Key
+  named : Bytes → Key
 
 -- a list takes a whole number from 0 to its length
 abbrev pub in_list : ℕ → ℤ → Put Key
-in_list n (pos k) = if nat_lt n k then Err IndexRange else Ok (item k)
+in_list n (pos k) = if nat_lt n k then Err IndexRange else Ok (nth k)
 in_list n (negsuc k) = Err IndexRange
 
 -- where a step leads from a value: null is what the step asks for, an empty list or an empty object
 abbrev pub key : Step → Value → Put Key
-key (Member name) Null = Ok (member name)
-key (Member name) (Object' ms) = Ok (member name)
+key (Member name) Value.Null = Ok (named name)
+key (Member name) (Value.Object ms) = Ok (named name)
 key (Member name) _ = Err NotContainer
-key (Index (Int z)) Null = in_list 0 z
-key (Index (Text name)) Null = Ok (member name)
-key (Index (Int z)) (List' ds) = in_list (length ds) z
-key (Index _) (List' ds) = Err IndexRange
-key (Index (Text name)) (Object' ms) = Ok (member name)
-key (Index (Int z)) (Object' ms) = Ok (member (signed_decimal z))
+key (Index (Value.Int z)) Value.Null = in_list 0 z
+key (Index (Value.Text name)) Value.Null = Ok (named name)
+key (Index (Value.Int z)) (Value.List ds) = in_list (length ds) z
+key (Index _) (Value.List ds) = Err IndexRange
+key (Index (Value.Text name)) (Value.Object ms) = Ok (named name)
+key (Index (Value.Int z)) (Value.Object ms) = Ok (named (signed_decimal z))
 key (Index _) _ = Err NotContainer
-key Append Null = Ok (item 0)
-key Append (List' ds) = Ok (item (length ds))
+key Append Value.Null = Ok (nth 0)
+key Append (Value.List ds) = Ok (nth (length ds))
 key Append _ = Err NotContainer
 
 -- what stands there
 abbrev pub there : Key → Value → Option Value
-there (item k) (List' ds) = item_at ds (pos k)
-there (member name) (Object' ms) = find_member name ms
+there (nth k) (Value.List ds) = item_at ds (pos k)
+there (named name) (Value.Object ms) = find_member name ms
 there _ _ = None
 
 -- null where nothing does
 abbrev pub child : Key → Value → Value
-child k v = unwrap_or (there k v) Null
+child k v = unwrap_or (there k v) Value.Null
 
 -- an item set, or appended at the length
 abbrev pub with_item : ℕ → Data → Datas → Datas
@@ -68,10 +67,10 @@ with_member name d (m ∷ ms) = if bytes_eq m.0 name then (m.0, d) ∷ ms else m
 
 -- the value with another one there: null becomes a list or an object
 abbrev pub with_child : Key → Value → Value → Value
-with_child (item k) w (List' ds) = List' (with_item k (plain w) ds)
-with_child (item k) w _ = List' (plain w ∷ [])
-with_child (member name) w (Object' ms) = Object' (with_member name (plain w) ms)
-with_child (member name) w _ = Object' ((name, plain w) ∷ [])
+with_child (nth k) w (Value.List ds) = Value.List (with_item k (plain w) ds)
+with_child (nth k) w _ = Value.List (plain w ∷ [])
+with_child (named name) w (Value.Object ms) = Value.Object (with_member name (plain w) ms)
+with_child (named name) w _ = Value.Object ((name, plain w) ∷ [])
 
 -- the value with what `write` makes of its child
 abbrev pub at_child : Key → (Value → Put Value) → Value → Put Value

@@ -5,7 +5,6 @@ use Rattle.std.specs.Str.{bytes_eq}
 use Rattle.uq_value.specs.Data.{Bytes, Data, Datas, Pairs}
 use Rattle.uq_value.specs.Plain.{value_of}
 use Rattle.uq_value.specs.declared.value.Value.{Value}
-use Rattle.uq_value.specs.declared.value.Value.TheVariants.{Int, Text, List as List', Object as Object'}
 
 -- the data of this name
 abbrev pub find : Bytes → Pairs → Option Data
@@ -17,7 +16,7 @@ find_member name ms = option_map value_of (find name ms)
 
 -- an object's member of this name
 abbrev pub get_member : Value → Bytes → Option Value
-get_member (Object' ms) name = find_member name ms
+get_member (Value.Object ms) name = find_member name ms
 get_member _ name = None
 
 abbrev pub item_at : Datas → ℤ → Option Value
@@ -26,7 +25,7 @@ item_at ds (negsuc n) = None
 
 -- a list's item by a whole number; an object's member by a text, or by the decimal text of a whole number
 abbrev pub get_index : Value → Value → Option Value
-get_index (List' ds) (Int z) = item_at ds z
-get_index (Object' ms) (Text name) = find_member name ms
-get_index (Object' ms) (Int z) = find_member (signed_decimal z) ms
+get_index (Value.List ds) (Value.Int z) = item_at ds z
+get_index (Value.Object ms) (Value.Text name) = find_member name ms
+get_index (Value.Object ms) (Value.Int z) = find_member (signed_decimal z) ms
 get_index _ _ = None

@@ -2,12 +2,11 @@
 use Rattle.std.specs.Prelude.{Bool, true, false, not, ◌&&◌, ◌||◌, if◌then◌else◌, ℤ, Option, Some, None}
 use Rattle.std.specs.Ordering.{int_eq}
 use Rattle.std.specs.Str.{bytes_eq}
-use Rattle.uq_value.specs.Data.{Data, null, boolean, whole, text, sequence, mapping, Items, no_items, item, Members, no_members, member}
+use Rattle.uq_value.specs.Data.{Data, null, bool, int, text, sequence, mapping, Items, no_items, item, Members, no_members, member}
 use Rattle.uq_value.specs.Plain.{plain}
 use Rattle.uq_value.specs.Truth.{truth}
 use Rattle.uq_value.specs.Number.{text_number}
 use Rattle.uq_value.specs.declared.value.Value.{Value}
-use Rattle.uq_value.specs.declared.value.Value.TheVariants.{Null, Bool as Bool', Int, Text, List as List', Object as Object'}
 
 abbrev pub alike : Bool → Bool → Bool
 alike a b = if a then b else not b
@@ -16,8 +15,8 @@ alike a b = if a then b else not b
 abbrev mutual
   pub data_same : Data → Data → Bool
   data_same null null = true
-  data_same (boolean a) (boolean b) = alike a b
-  data_same (whole a) (whole b) = int_eq a b
+  data_same (bool a) (bool b) = alike a b
+  data_same (int a) (int b) = int_eq a b
   data_same (text a) (text b) = bytes_eq a b
   data_same (sequence ds) (sequence es) = items_same ds es
   data_same (mapping ms) (mapping ns) = members_same ms ns
@@ -38,17 +37,17 @@ abbrev pub same : Value → Value → Bool
 same a b = data_same (plain a) (plain b)
 
 abbrev pub same_kind : Value → Value → Bool
-same_kind Null Null = true
-same_kind (Bool' a) (Bool' b) = true
-same_kind (Int a) (Int b) = true
-same_kind (Text a) (Text b) = true
-same_kind (List' a) (List' b) = true
-same_kind (Object' a) (Object' b) = true
+same_kind Value.Null Value.Null = true
+same_kind (Value.Bool a) (Value.Bool b) = true
+same_kind (Value.Int a) (Value.Int b) = true
+same_kind (Value.Text a) (Value.Text b) = true
+same_kind (Value.List a) (Value.List b) = true
+same_kind (Value.Object a) (Value.Object b) = true
 same_kind _ _ = false
 
 abbrev pub is_null_or_boolean : Value → Bool
-is_null_or_boolean Null = true
-is_null_or_boolean (Bool' b) = true
+is_null_or_boolean Value.Null = true
+is_null_or_boolean (Value.Bool b) = true
 is_null_or_boolean _ = false
 
 abbrev pub has_number : Option ℤ → ℤ → Bool
@@ -57,8 +56,8 @@ has_number (Some a) b = int_eq a b
 
 -- a number and a text, where the text's number is that number
 abbrev pub same_number : Value → Value → Bool
-same_number (Int x) (Text t) = has_number (text_number t) x
-same_number (Text t) (Int y) = has_number (text_number t) y
+same_number (Value.Int x) (Value.Text t) = has_number (text_number t) x
+same_number (Value.Text t) (Value.Int y) = has_number (text_number t) y
 same_number _ _ = false
 
 -- `==`: the first case that fits decides

@@ -1,6 +1,6 @@
 -- The size of a value: the length of its stored form, in which a length or count is unsigned LEB128.
 use Rattle.std.specs.Prelude.{ℕ, zero, suc, ◌+◌, ◌/◌, if◌then◌else◌, nat_lt, length}
-use Rattle.uq_value.specs.Data.{Bytes, Data, null, boolean, whole, text, sequence, mapping, Items, no_items, item, Members, no_members, member, list_of, pairs_of}
+use Rattle.uq_value.specs.Data.{Bytes, Data, null, bool, int, text, sequence, mapping, Items, no_items, item, Members, no_members, member, list_of, pairs_of}
 
 -- no value has a greater size: 2^24 - 64
 abbrev pub most_size : ℕ
@@ -26,8 +26,8 @@ text_size bs = 1 + name_size bs
 abbrev mutual
   pub data_size : Data → ℕ
   data_size null = 1
-  data_size (boolean b) = 1
-  data_size (whole z) = 9
+  data_size (bool b) = 1
+  data_size (int z) = 9
   data_size (text bs) = text_size bs
   data_size (sequence ds) = 1 + leb_size (length (list_of ds)) + items_size ds
   data_size (mapping ms) = 1 + leb_size (length (pairs_of ms)) + members_size ms

@@ -1,7 +1,6 @@
 -- Which values count as true.
 use Rattle.std.specs.Prelude.{zero, suc, Bool, true, false, not, ℤ, pos, negsuc, List, [], ◌∷◌}
 use Rattle.uq_value.specs.declared.value.Value.{Value}
-use Rattle.uq_value.specs.declared.value.Value.TheVariants.{Null, Bool as Bool', Int, Text, List as List', Object as Object'}
 
 abbrev pub is_zero : ℤ → Bool
 is_zero (pos zero) = true
@@ -14,9 +13,9 @@ is_empty (x ∷ xs) = false
 
 -- null, false, 0, the empty text, `[]` and `{}` are false; all else is true
 abbrev pub truth : Value → Bool
-truth Null = false
-truth (Bool' b) = b
-truth (Int z) = not (is_zero z)
-truth (Text bs) = not (is_empty bs)
-truth (List' ds) = not (is_empty ds)
-truth (Object' ms) = not (is_empty ms)
+truth Value.Null = false
+truth (Value.Bool b) = b
+truth (Value.Int z) = not (is_zero z)
+truth (Value.Text bs) = not (is_empty bs)
+truth (Value.List ds) = not (is_empty ds)
+truth (Value.Object ms) = not (is_empty ms)

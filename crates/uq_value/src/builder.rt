@@ -1,41 +1,41 @@
-// Objects from members that come one after the other.
+//! Objects from members that come one after the other.
 
-ghost use Rattle.std.specs.Prelude.{◌≡◌, [], ◌∷◌, ◌++◌, true, length, option_map, IfOk, IfErr, OnErr};
+ghost use Rattle.std.specs.Prelude.{◌≡◌, [], IfOk, IfErr, OnOk, OnErr, Ok};
 ghost use Rattle.uq_value.specs.Data.{names_of, IsDistinct};
+ghost use Rattle.uq_value.specs.Faults.{Refuses};
 ghost use Rattle.uq_value.specs.Plain.{plain};
 ghost use Rattle.uq_value.specs.Places.{place_of};
-ghost use Rattle.uq_value.specs.Slots.{slots_of, Sets, Finishes};
-ghost use Rattle.uq_value.specs.Halfway.{Adds, AddFault};
+ghost use Rattle.uq_value.specs.Put.{limited, with_member};
+ghost use Rattle.uq_value.specs.declared.value.Value.{Value};
 
 use crate::error::{NoMemory, ValueFault};
-use crate::measuring::{MOST_DEPTH, depth};
-use crate::object::Object;
+use crate::kept::Kept;
+use crate::object::{Member, Object, add};
 use crate::value::Value;
-use indexmap::IndexMap;
 use std::alloc::Global;
 use std::marker::Model;
 
-/// Members on the way to an object, of any number and size, with distinct names. Each is found by the hash of its name,
-/// so that many are set in linear time.
-///
-/// The value of a member is left out where it is known to be larger than a value may be: another may yet take its
-/// place. So contracts see a list of names with plain data that may be left out.
+/// Members on the way to an object, of any number and size, with distinct names. Each is found in about as many steps
+/// as the logarithm of their number has. Contracts see the list of their names and plain data.
 #[derive(Drop)]
 pub struct ObjectBuilder {
-    members: IndexMap<Vec<u8>, Option<Value>>,
+    members: Vec<Member>,
+    kept: Kept,
+    alloc: Global,
 }
 
 impl Model for ObjectBuilder {
-    ghost use Rattle.uq_value.specs.Slots.{Slots, slots_code, slots_of};
-    ghost use Rattle.uq_value.specs.Data.{names_of, IsDistinct};
+    ghost use Rattle.uq_value.specs.Data.{Pairs};
+    ghost use Rattle.uq_value.specs.Internal.Codes.{members_code};
+    ghost use Rattle.uq_value.specs.Internal.Building.{builder_view, IsBuilder};
 
-    ghost Value = { Slots };
+    ghost Value = { Pairs };
 
-    ghost coded = { slots_code };
+    ghost coded = { members_code };
 
-    ghost view = { λ b. slots_of b.members.entries };
+    ghost view = { builder_view };
 
-    ghost invariant = { λ b. IsDistinct (names_of (slots_of b.members.entries)) };
+    ghost invariant = { IsBuilder };
 }
 
 impl ObjectBuilder {
@@ -44,66 +44,46 @@ impl ObjectBuilder {
         ensures { result ≡ [] }
     {
         ObjectBuilder {
-            members: IndexMap::new(alloc),
+            members: Vec::new(alloc),
+            kept: Kept::new(),
+            alloc,
         }
     }
 
     /// Sets the member of this name, whose bytes are the builder's from now on: one that is there keeps its place, and a
-    /// new one comes last. The answer is whether it is new. A value is None where it is too large to be one.
-    pub fn set(&mut self, name: Vec<u8>, value: Option<Value>) -> Result<bool, NoMemory>
-        ensures ok { IfOk result (Sets self.old self.new name.items (option_map plain value)) }
+    /// new one comes last. The answer is its place: that of a new one is the number of members before.
+    pub fn set(&mut self, name: Vec<u8>, value: Value) -> Result<usize, NoMemory>
+        ensures place { IfOk result (λ at. at ≡ place_of name.items (names_of self.old)) }
+        ensures ok { OnOk result (self.new ≡ with_member name.items (plain value) self.old) }
+        ensures distinct { OnOk result (IsDistinct (names_of self.new)) }
         ensures unchanged { OnErr result (self.new ≡ self.old) }
     {
-        match self.members.insert(name, value) {
-            Ok(before) => Ok(before.is_none()),
-            Err(_) => Err(NoMemory),
+        match self.kept.find(self.members.as_slice(), name.as_slice()) {
+            Ok(at) => {
+                self.members[at].set_value(value);
+                Ok(at)
+            }
+            Err(spot) => {
+                let at = self.members.len();
+                add(
+                    &mut self.members,
+                    &mut self.kept,
+                    self.alloc,
+                    name,
+                    spot,
+                    value,
+                )?;
+                Ok(at)
+            }
         }
     }
 
     /// The object of these members. Refused is first one that would be `TooDeep`, then one that would be `TooLarge`.
-    pub fn finish(self, alloc: Global) -> Result<Object, ValueFault>
-        ensures { Finishes self result }
+    pub fn finish(self, _alloc: Global) -> Result<Object, ValueFault>
+        ensures ok { IfOk result (λ o. limited (Value.Object self) ≡ Ok (Value.Object o)) }
+        ensures refused { IfErr result (Refuses (limited (Value.Object self))) }
     {
-        let ObjectBuilder { members } = self;
-        build(alloc, members)
+        let ObjectBuilder { members, kept, .. } = self;
+        Object::from_members(members, kept)
     }
-}
-
-fn build(alloc: Global, members: IndexMap<Vec<u8>, Option<Value>>) -> Result<Object, ValueFault>
-    requires { IsDistinct (names_of (slots_of members.entries)) }
-    ensures { Finishes (slots_of members.entries) result }
-{
-    let mut object = Object::new(alloc);
-    let mut fits = true;
-    for (name, value) in members {
-        fits = add(&mut object, fits, name, value)?;
-    }
-    if fits {
-        Ok(object)
-    } else {
-        Err(ValueFault::TooLarge)
-    }
-}
-
-/// Adds a member to an object, where all before it are there. The answer is whether this one is there too.
-fn add(
-    object: &mut Object,
-    fits: bool,
-    name: Vec<u8>,
-    value: Option<Value>,
-) -> Result<bool, ValueFault>
-    requires { fits ≡ true → place_of name.items (names_of object.old) ≡ length object.old }
-    ensures ok { IfOk result (Adds object.old object.new fits name.items (option_map plain value)) }
-    ensures fault { IfErr result (AddFault (option_map plain value)) }
-{
-    let Some(value) = value else {
-        return Ok(false);
-    };
-    if depth(&value) >= MOST_DEPTH {
-        return Err(ValueFault::TooDeep);
-    }
-    if !fits {
-        return Ok(false);
-    }
-    Ok(object.push_if_small(name, value)?)
 }

@@ -1,5 +1,4 @@
-// Truth, the two equalities and the order of values.
-
+//! Truth, the two equalities and the order of values.
 ghost use Rattle.std.specs.Prelude.{◌≡◌, ◌↔◌, IsTrue};
 ghost use Rattle.uq_value.specs.Truth.{truth as spec_truth};
 ghost use Rattle.uq_value.specs.Same.{same as spec_same, loose_same as spec_loose_same, same_kind as spec_same_kind, same_number as spec_same_number, has_number as spec_has_number, is_null_or_boolean as spec_is_null_or_boolean};

@@ -1,5 +1,8 @@
+//! Why a value can't be made or written.
 ghost use Rattle.std.specs.Prelude.{◌≡◌};
 ghost use Rattle.uq_value.specs.declared.error.ValueFault.TheVariants.{Memory};
+
+use std::alloc::{AllocError, AllocFailed};
 
 /// Memory was asked for and not had.
 #[derive(Clone, Copy, Debug, PartialEq, Eq)]
@@ -18,6 +21,19 @@ pub enum ValueFault {
     TooLarge,
     /// Memory was asked for and not had.
     Memory,
+}
+
+impl From<AllocError> for NoMemory {
+    fn from(_missing: AllocError) -> NoMemory {
+        NoMemory
+    }
+}
+
+/// What was not stored is dropped.
+impl<T: Drop> From<AllocFailed<T>> for NoMemory {
+    fn from(_refused: AllocFailed<T>) -> NoMemory {
+        NoMemory
+    }
 }
 
 impl From<NoMemory> for ValueFault {

@@ -1,14 +1,15 @@
-ghost use Rattle.std.specs.Prelude.{◌≡◌, ◌≤◌, ◌<◌, ◌+◌, [], ◌∷◌, ◌++◌, length, slice_get, option_copied, IfOk, IfErr, OnOk, OnErr, Ok, Err, MatchResult};
-ghost use Rattle.uq_value.specs.Data.{list};
-ghost use Rattle.uq_value.specs.Depths.{depths};
+//! Lists, and writes within them.
+ghost use Rattle.std.specs.Prelude.{◌≡◌, ◌≤◌, ◌<◌, ◌+◌, [], ◌∷◌, ◌++◌, ◌-◌, ◌^◌, min, map, length, slice_get, option_copied, IfOk, IfErr, OnOk, OnErr, Ok, Err, MatchResult};
+ghost use Rattle.uq_value.specs.Data.{list, items_of};
 ghost use Rattle.uq_value.specs.Faults.{Refuses};
-ghost use Rattle.uq_value.specs.Put.{limited, item};
-ghost use Rattle.uq_value.specs.Reaching.{reached};
-ghost use Rattle.uq_value.specs.Writing.{put_in, put_at, PushFits, size_beside_next};
-ghost use Rattle.uq_value.specs.declared.value.Value.TheVariants.{Int, List as List'};
+ghost use Rattle.uq_value.specs.Put.{limited, nth};
+ghost use Rattle.uq_value.specs.Internal.Reaching.{reached};
+ghost use Rattle.uq_value.specs.Internal.Writing.{put_in, put_at, PushFits, size_beside_next};
+ghost use Rattle.uq_value.specs.declared.value.Value.{Value};
 ghost use Rattle.uq_value.specs.declared.step.Step.TheVariants.{Index};
 ghost use Rattle.uq_value.specs.Size.{data_size, most_size};
 ghost use Rattle.uq_value.specs.Depth.{data_depth, most_depth};
+ghost use Rattle.uq_value.specs.IsValue.{IsValue, ItemsAreSound};
 ghost use Rattle.uq_value.specs.Plain.{items as spec_items, plain, depth as spec_depth};
 ghost use Rattle.uq_value.specs.Truth.{is_empty as spec_is_empty};
 ghost use Rattle.uq_value.specs.Same.{data_same};
@@ -17,7 +18,8 @@ ghost use Rattle.uq_value.specs.Reading.{item_at as spec_item_at};
 use crate::comparing::alike;
 use crate::copying::copy;
 use crate::error::{NoMemory, ValueFault};
-use crate::measuring::{MOST_DEPTH, MOST_SIZE, depth, depth_now, leb_size, size};
+use crate::kept::Kept;
+use crate::measuring::{MOST_DEPTH, MOST_SIZE, depth, is_value, leb_size, size};
 use crate::step::Step;
 use crate::value::Value;
 use crate::writing::write;
@@ -29,19 +31,18 @@ use std::marker::Model;
 #[derive(Drop)]
 pub struct List {
     items: Vec<Value>,
-    size: u64,
-    depth: u32,
+    kept: Kept,
 }
 
 impl Model for List {
     ghost use Rattle.uq_value.specs.Data.{Datas};
-    ghost use Rattle.uq_value.specs.Codes.{items_code};
+    ghost use Rattle.uq_value.specs.Internal.Codes.{items_code};
 
     ghost Value = { Datas };
 
     ghost coded = { items_code };
 
-    ghost use Rattle.uq_value.specs.Kept.{list_view, IsList, list_rank};
+    ghost use Rattle.uq_value.specs.Internal.Kept.{list_view, IsList, list_rank};
 
     ghost view = { list_view };
 
@@ -49,7 +50,7 @@ impl Model for List {
 
     ghost size = { list_rank };
 
-    ghost use Rattle.uq_value.specs.Falls.{list_falls};
+    ghost use Rattle.uq_value.specs.Internal.Falls.{list_falls};
 
     ghost size_decreases = { λ a h. list_falls a.items.items };
 }
@@ -61,8 +62,7 @@ impl List {
     {
         List {
             items: Vec::new(alloc),
-            size: 2,
-            depth: 1,
+            kept: Kept::new(),
         }
     }
 
@@ -116,17 +116,41 @@ impl List {
     pub(crate) fn copy(&self, alloc: Global) -> Result<List, NoMemory>
         ensures { IfOk result (λ l. l ≡ self.now) }
     {
-        let mut items = Vec::new(alloc);
+        let mut items = Vec::with_capacity(alloc, self.items.len())?;
         for v in &self.items {
             let v = copy(alloc, v)?;
-            let Ok(()) = items.push(v) else {
-                return Err(NoMemory);
-            };
+            items.push(v)?;
+        }
+        let kept = self.kept.copy(alloc)?;
+        Ok(List { items, kept })
+    }
+
+    /// The list of these values. Refused is first one that would be `TooDeep`, then one that would be `TooLarge`.
+    pub fn from_values(values: Vec<Value>) -> Result<List, ValueFault>
+        ensures ok { IfOk result (λ l. l ≡ map plain values.items) }
+        ensures fits { OnOk result (limited (Value.List (map plain values.items)) ≡ Ok (Value.List (map plain values.items))) }
+        ensures refused { IfErr result (Refuses (limited (Value.List (map plain values.items)))) }
+    {
+        let (size, depth) = measured(values.as_slice());
+        if depth > MOST_DEPTH {
+            return Err(ValueFault::TooDeep);
+        }
+        if size > MOST_SIZE {
+            return Err(ValueFault::TooLarge);
         }
         Ok(List {
-            items,
-            size: self.size,
-            depth: self.depth,
+            items: values,
+            kept: Kept::new().with_numbers(size, depth),
+        })
+    }
+
+    /// A list without items yet, with room for so many.
+    pub fn with_capacity(alloc: Global, capacity: usize) -> Result<List, NoMemory>
+        ensures { IfOk result (λ l. l ≡ []) }
+    {
+        Ok(List {
+            items: Vec::with_capacity(alloc, capacity)?,
+            kept: Kept::new(),
         })
     }
 
@@ -134,8 +158,8 @@ impl List {
     /// leaves the list.
     pub fn push(&mut self, v: Value) -> Result<(), ValueFault>
         ensures ok { OnOk result (self.new ≡ self.old ++ plain v ∷ []) }
-        ensures fits { OnOk result (limited (List' (self.old ++ plain v ∷ [])) ≡ Ok (List' self.new)) }
-        ensures refused { IfErr result (Refuses (limited (List' (self.old ++ plain v ∷ [])))) }
+        ensures fits { OnOk result (limited (Value.List (self.old ++ plain v ∷ [])) ≡ Ok (Value.List self.new)) }
+        ensures refused { IfErr result (Refuses (limited (Value.List (self.old ++ plain v ∷ [])))) }
         ensures unchanged { OnErr result (self.new ≡ self.old) }
     {
         if depth(&v) >= MOST_DEPTH {
@@ -153,13 +177,11 @@ impl List {
         ensures ok { OnOk result (self.new ≡ self.old ++ plain v ∷ []) }
         ensures unchanged { OnErr result (self.new ≡ self.old) }
     {
+        is_value(&v);
         let size_after = self.size_beside_next() + size(&v);
-        let depth_after = self.depth.max(depth(&v) + 1);
-        let Ok(()) = self.items.push(v) else {
-            return Err(NoMemory);
-        };
-        self.size = size_after;
-        self.depth = depth_after;
+        let depth = depth(&v);
+        push_item(&mut self.items, v)?;
+        self.kept.add(size_after, depth);
         Ok(())
     }
 
@@ -170,12 +192,12 @@ impl List {
         ensures shallow { data_depth (list self.now) ≤ most_depth }
     {
         let count = self.items.len();
-        self.size - leb_size(count) + leb_size(count + 1)
+        self.kept.size() - leb_size(count) + leb_size(count + 1)
     }
 
     /// The item at an index, none at the length.
     pub(crate) fn reach(&self, at: i64) -> Result<Option<&Value>, ValueFault>
-        ensures { MatchResult result (λ o. reached (Index (Int at)) (List' self.now) ≡ Ok (option_copied o)) (λ e. reached (Index (Int at)) (List' self.now) ≡ Err e) }
+        ensures { MatchResult result (λ o. reached (Index (Value.Int at)) (Value.List self.now) ≡ Ok (option_copied o)) (λ e. reached (Index (Value.Int at)) (Value.List self.now) ≡ Err e) }
     {
         if at < 0 || at as usize > self.items.len() {
             return Err(ValueFault::IndexRange);
@@ -195,8 +217,8 @@ impl List {
     ) -> Result<(), ValueFault>
         requires shallow { length rest.now + spec_depth new < most_depth }
         requires small { room ≤ most_size }
-        ensures ok { OnOk result (put_in room (Index (Int at) ∷ rest.now) new (List' self.old) ≡ Ok (List' self.new)) }
-        ensures refused { IfErr result (Refuses (put_in room (Index (Int at) ∷ rest.now) new (List' self.old))) }
+        ensures ok { OnOk result (put_in room (Index (Value.Int at) ∷ rest.now) new (Value.List self.old) ≡ Ok (Value.List self.new)) }
+        ensures refused { IfErr result (Refuses (put_in room (Index (Value.Int at) ∷ rest.now) new (Value.List self.old))) }
         ensures unchanged { OnErr result (self.new ≡ self.old) }
     {
         if at < 0 || at as usize > self.len() {
@@ -221,8 +243,8 @@ impl List {
         requires within { at < length self.old }
         requires shallow { length rest.now + spec_depth new < most_depth }
         requires small { room ≤ most_size }
-        ensures ok { OnOk result (put_at room (item at) rest.now new (List' self.old) ≡ Ok (List' self.new)) }
-        ensures refused { IfErr result (Refuses (put_at room (item at) rest.now new (List' self.old))) }
+        ensures ok { OnOk result (put_at room (nth at) rest.now new (Value.List self.old) ≡ Ok (Value.List self.new)) }
+        ensures refused { IfErr result (Refuses (put_at room (nth at) rest.now new (Value.List self.old))) }
         ensures unchanged { OnErr result (self.new ≡ self.old) }
     {
         let child = &mut self.items[at];
@@ -232,14 +254,18 @@ impl List {
             child,
             rest,
             new,
-            room.saturating_sub(self.size - size_before),
+            room.saturating_sub(self.kept.size() - size_before),
         )?;
+        is_value(child);
         let (size_after, depth_after) = (size(child), depth(child));
-        self.size = self.size - size_before + size_after;
-        self.depth = match depth_now(self.depth, depth_before, depth_after) {
-            Some(depth) => depth,
-            None => deepest(self.items.as_slice()) + 1,
-        };
+        let size = self.kept.size() - size_before + size_after;
+        self.kept.mend(
+            alloc,
+            self.items.as_slice(),
+            size,
+            depth_before,
+            depth_after,
+        );
         Ok(())
     }
 
@@ -254,8 +280,8 @@ impl List {
     ) -> Result<(), ValueFault>
         requires shallow { length rest.now + spec_depth new < most_depth }
         requires small { room ≤ most_size }
-        ensures ok { OnOk result (put_at room (item (length self.old)) rest.now new (List' self.old) ≡ Ok (List' self.new)) }
-        ensures refused { IfErr result (Refuses (put_at room (item (length self.old)) rest.now new (List' self.old))) }
+        ensures ok { OnOk result (put_at room (nth (length self.old)) rest.now new (Value.List self.old) ≡ Ok (Value.List self.new)) }
+        ensures refused { IfErr result (Refuses (put_at room (nth (length self.old)) rest.now new (Value.List self.old))) }
         ensures unchanged { OnErr result (self.new ≡ self.old) }
     {
         let mut last = Value::Null;
@@ -269,32 +295,52 @@ impl List {
         Ok(self.push_within(last)?)
     }
 
+    /// A list is a value: a caller's proof learns it from this call, which does nothing.
+    pub fn is_value(&self)
+        ensures { IsValue (list self.now) }
+    {
+        let _ = &self.items;
+    }
+
     pub(crate) fn size(&self) -> u64
         ensures size { result ≡ data_size (list self.now) }
         ensures fits { data_size (list self.now) ≤ most_size }
     {
-        self.size
+        self.kept.size()
     }
 
     pub(crate) fn depth(&self) -> u32
         ensures depth { result ≡ data_depth (list self.now) }
         ensures fits { data_depth (list self.now) ≤ most_depth }
     {
-        self.depth
+        self.kept.depth()
     }
 }
 
-/// How deep the deepest of these is.
-fn deepest(values: &[Value]) -> u32
-    ensures depth { result ≡ depths values.now }
-    ensures fits { depths values.now ≤ most_depth }
+/// Appends a value. The first one takes room for one: most lists within lists are short.
+fn push_item(items: &mut Vec<Value>, v: Value) -> Result<(), NoMemory>
+    ensures ok { OnOk result (items.new.items ≡ items.old.items ++ v ∷ []) }
+    ensures unchanged { OnErr result (items.new.items ≡ items.old.items) }
 {
-    let mut most = 0;
-    for v in values {
-        let d = depth(v);
-        if d > most {
-            most = d;
-        }
+    if items.is_empty() {
+        items.reserve_exact(1)?;
     }
-    most
+    items.push(v)?;
+    Ok(())
+}
+
+/// The size and depth that a list of these values has. A size above 2^64 - 1 counts as that.
+fn measured(values: &[Value]) -> (u64, u32)
+    ensures size { result.0 ≡ min (data_size (list (map plain values.now))) (2 ^ 64 - 1) }
+    ensures depth { result.1 ≡ data_depth (list (map plain values.now)) }
+    ensures sound { ItemsAreSound (items_of (map plain values.now)) }
+{
+    let mut whole = 1 + leb_size(values.len());
+    let mut deepest = 0;
+    for v in values {
+        is_value(v);
+        whole = whole.saturating_add(size(v));
+        deepest = depth(v).max(deepest);
+    }
+    (whole, deepest + 1)
 }

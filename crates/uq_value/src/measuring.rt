@@ -1,18 +1,17 @@
-// The size and depth of values, which lists and objects keep.
-
-ghost use Rattle.std.specs.Prelude.{◌≡◌, ◌≤◌, ◌<◌, ◌+◌, ◌^◌, IfSome};
+//! The size and depth of values, which lists and objects keep.
+ghost use Rattle.std.specs.Prelude.{◌≡◌, ◌≤◌, ◌<◌, ◌+◌, ◌^◌};
 ghost use Rattle.uq_value.specs.Size.{leb_size as spec_leb_size, name_size as spec_name_size, most_size};
 ghost use Rattle.uq_value.specs.Depth.{most_depth};
-ghost use Rattle.uq_value.specs.Depths.{IsDepthAfter};
-ghost use Rattle.uq_value.specs.Plain.{size as spec_size, depth as spec_depth};
+ghost use Rattle.uq_value.specs.IsValue.{IsValue};
+ghost use Rattle.uq_value.specs.Plain.{plain, size as spec_size, depth as spec_depth};
 
 use crate::value::Value;
 
 /// The greatest size of a value, in bytes of its stored form: 2^24 - 64.
-pub(crate) const MOST_SIZE: u64 = 16_777_152;
+pub const MOST_SIZE: u64 = 16_777_152;
 
 /// The greatest depth of a value.
-pub(crate) const MOST_DEPTH: u32 = 128;
+pub const MOST_DEPTH: u32 = 128;
 
 /// The length of the value's stored form.
 pub fn size(v: &Value) -> u64
@@ -40,13 +39,21 @@ pub fn depth(v: &Value) -> u32
     }
 }
 
-/// Every value keeps the limits: a caller's proof learns it from this call, which does nothing.
-pub fn within_limits(v: &Value)
-    ensures small { spec_size v.now ≤ most_size }
-    ensures shallow { spec_depth v.now ≤ most_depth }
+/// What every value is, by its plain data: a caller's proof learns it from this call, which does nothing.
+pub fn is_value(v: &Value)
+    ensures { IsValue (plain v.now) }
 {
-    let _ = size(v);
-    let _ = depth(v);
+    match v {
+        Value::Null | Value::Bool(_) => {}
+        Value::Int(z) => {
+            let _number = *z;
+        }
+        Value::Text(t) => {
+            let _ = t.bytes();
+        }
+        Value::List(l) => l.is_value(),
+        Value::Object(o) => o.is_value(),
+    }
 }
 
 /// The bytes that a length and these bytes take.
@@ -70,20 +77,4 @@ pub(crate) fn leb_size(n: usize) -> u64
         rest /= 128;
     }
     10
-}
-
-/// The depth of a list or object, of which one part's depth has changed. None where only the other parts tell: that
-/// part alone may have been the deepest, and is not as deep now.
-pub(crate) fn depth_now(kept: u32, before: u32, after: u32) -> Option<u32>
-    requires before_small { before ≤ most_depth }
-    requires after_small { after ≤ most_depth }
-    ensures { IfSome result (IsDepthAfter kept before after) }
-{
-    if after + 1 >= kept {
-        Some(after + 1)
-    } else if before + 1 < kept {
-        Some(kept)
-    } else {
-        None
-    }
 }

@@ -1,7 +1,6 @@
-// The numbers of values and of texts.
-
-ghost use Rattle.std.specs.Prelude.{◌≡◌, ◌-◌, ◌^◌, ◌≤◌, min, option_map, if◌then◌else◌};
-ghost use Rattle.uq_value.specs.Number.{number as spec_number, text_number as spec_text_number, unsigned as spec_unsigned, positive as spec_positive, negative as spec_negative};
+//! The numbers of values and of texts.
+ghost use Rattle.std.specs.Prelude.{◌≡◌, ◌-◌, ◌^◌, ◌≤◌, min, option_map};
+ghost use Rattle.uq_value.specs.Number.{number as spec_number, text_number as spec_text_number, unsigned as spec_unsigned, signed, positive as spec_positive, negative as spec_negative};
 
 use crate::value::Value;
 
@@ -26,11 +25,24 @@ pub(crate) fn text_number(bytes: &[u8]) -> Option<i64>
         None => None,
         Some((c, digits)) => {
             if *c == b'-' {
-                with_sign(true, unsigned(digits))
+                from_digits(true, digits)
             } else {
-                with_sign(false, unsigned(bytes))
+                from_digits(false, bytes)
             }
         }
+    }
+}
+
+/// The whole number of this sign and these decimal digits: None exactly where there is no digit, where another byte is
+/// among them, or where the number does not fit in 64 bits. Leading zeros are allowed.
+pub fn from_digits(is_negative: bool, digits: &[u8]) -> Option<i64>
+    ensures { result ≡ signed is_negative digits.now }
+{
+    let size = unsigned(digits);
+    if is_negative {
+        negative(size)
+    } else {
+        positive(size)
     }
 }
 
@@ -49,17 +61,6 @@ fn unsigned(digits: &[u8]) -> Option<u64>
         n = n.saturating_mul(10).saturating_add(u64::from(*c - b'0'));
     }
     Some(n)
-}
-
-/// The whole number of this sign and size: None exactly where there is no size, or the number does not fit in 64 bits.
-pub fn with_sign(is_negative: bool, size: Option<u64>) -> Option<i64>
-    ensures { result ≡ (if is_negative then spec_negative size else spec_positive size) }
-{
-    if is_negative {
-        negative(size)
-    } else {
-        positive(size)
-    }
 }
 
 /// The number as it is, where it is below 2^63.

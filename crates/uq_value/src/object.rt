@@ -1,14 +1,16 @@
-ghost use Rattle.std.specs.Prelude.{◌≡◌, ◌≤◌, ◌<◌, ◌+◌, [], ◌∷◌, ◌++◌, length, map, bytes_eq, slice_get, option_copied, option_map, IfOk, IfErr, OnOk, OnErr, Ok};
-ghost use Rattle.uq_value.specs.Depths.{member_depths};
+//! Objects, and writes within them.
+ghost use Rattle.std.specs.Prelude.{◌≡◌, ◌≤◌, ◌<◌, ◌+◌, [], ◌∷◌, ◌++◌, ℕ, List, length, map, min, ◌-◌, ◌^◌, slice_get, option_copied, option_map, IfSome, IfOk, IfErr, OnOk, OnErr, Ok};
 ghost use Rattle.uq_value.specs.Faults.{Refuses};
-ghost use Rattle.uq_value.specs.Places.{place_of as spec_place_of};
-ghost use Rattle.uq_value.specs.Put.{member};
-ghost use Rattle.uq_value.specs.Writing.{put_at, MemberFits, PushesIfSmall, object_beside_next};
-ghost use Rattle.uq_value.specs.declared.value.Value.TheVariants.{Object as Object'};
-ghost use Rattle.std.specs.List.{find};
-ghost use Rattle.uq_value.specs.Data.{object, names_of, IsDistinct};
-ghost use Rattle.uq_value.specs.Size.{data_size, most_size};
+ghost use Rattle.uq_value.specs.Put.{limited, named};
+ghost use Rattle.uq_value.specs.Internal.Writing.{put_at, name_at, object_beside_next};
+ghost use Rattle.uq_value.specs.declared.value.Value.{Value};
+ghost use Rattle.uq_value.specs.Internal.Names.{name_of, names, member_depth};
+ghost use Rattle.uq_value.specs.Internal.Kept.{plain_member};
+ghost use Rattle.uq_value.specs.Internal.Beside.{CountsAre, NamesAre, LacksAt};
+ghost use Rattle.uq_value.specs.Data.{object, members_of, IsDistinct};
+ghost use Rattle.uq_value.specs.Size.{data_size, text_size, most_size};
 ghost use Rattle.uq_value.specs.Depth.{data_depth, most_depth};
+ghost use Rattle.uq_value.specs.IsValue.{IsValue, MembersAreSound};
 ghost use Rattle.uq_value.specs.Plain.{members as spec_members, plain, depth as spec_depth};
 ghost use Rattle.uq_value.specs.Truth.{is_empty as spec_is_empty};
 ghost use Rattle.uq_value.specs.Same.{data_same};
@@ -17,9 +19,10 @@ ghost use Rattle.uq_value.specs.Reading.{find_member};
 use crate::comparing::alike;
 use crate::copying::copy;
 use crate::error::{NoMemory, ValueFault};
-use crate::measuring::{MOST_SIZE, depth, depth_now, leb_size, name_size, size};
+use crate::kept::Kept;
+use crate::measuring::{MOST_DEPTH, MOST_SIZE, depth, is_value, leb_size, name_size, size};
+use crate::names::Spot;
 use crate::step::Step;
-use crate::text::Text;
 use crate::value::Value;
 use crate::writing::write;
 use std::alloc::Global;
@@ -29,8 +32,28 @@ use std::marker::Model;
 #[cycle(value)]
 #[derive(Drop)]
 pub struct Member {
-    name: Text,
+    name: Vec<u8>,
     value: Value,
+}
+
+impl Member {
+    pub(crate) fn name(&self) -> &[u8]
+        ensures { result.now ≡ name_of self.now }
+    {
+        self.name.as_slice()
+    }
+
+    pub(crate) fn value(&self) -> &Value
+        ensures { result.now ≡ self.now.value }
+    {
+        &self.value
+    }
+
+    pub(crate) fn set_value(&mut self, value: Value)
+        ensures { self.new ≡ record self.old { value = value } }
+    {
+        self.value = value;
+    }
 }
 
 /// Members in order of first insertion, with distinct names. Contracts see the list of their names and plain data.
@@ -38,19 +61,18 @@ pub struct Member {
 #[derive(Drop)]
 pub struct Object {
     members: Vec<Member>,
-    size: u64,
-    depth: u32,
+    kept: Kept,
 }
 
 impl Model for Object {
     ghost use Rattle.uq_value.specs.Data.{Pairs};
-    ghost use Rattle.uq_value.specs.Codes.{members_code};
+    ghost use Rattle.uq_value.specs.Internal.Codes.{members_code};
 
     ghost Value = { Pairs };
 
     ghost coded = { members_code };
 
-    ghost use Rattle.uq_value.specs.Kept.{object_view, IsObject, object_rank};
+    ghost use Rattle.uq_value.specs.Internal.Kept.{object_view, IsObject, object_rank};
 
     ghost view = { object_view };
 
@@ -58,7 +80,7 @@ impl Model for Object {
 
     ghost size = { object_rank };
 
-    ghost use Rattle.uq_value.specs.Falls.{object_falls};
+    ghost use Rattle.uq_value.specs.Internal.Falls.{object_falls};
 
     ghost size_decreases = { λ a h. object_falls a.members.items };
 }
@@ -70,8 +92,7 @@ impl Object {
     {
         Object {
             members: Vec::new(alloc),
-            size: 2,
-            depth: 1,
+            kept: Kept::new(),
         }
     }
 
@@ -89,13 +110,14 @@ impl Object {
         self.members.is_empty()
     }
 
-    /// The name and value of the member at a place from 0 on, in order of first insertion.
+    /// The name and value of the member at a place from 0 on, in order of first insertion. The name fits in a text.
     pub fn member(&self, at: usize) -> Option<(&[u8], &Value)>
-        ensures { option_map (λ m. (m.0.now, m.1.now)) result ≡ slice_get (spec_members self.now) at }
+        ensures member { option_map (λ m. (m.0.now, m.1.now)) result ≡ slice_get (spec_members self.now) at }
+        ensures fits { IfSome result (λ m. text_size m.0.now ≤ most_size) }
     {
         match sqlite_items::at(self.members.as_slice(), at) {
             Some(m) => {
-                let name = m.name.bytes();
+                let name = m.name();
                 Some((name, &m.value))
             }
             None => None,
@@ -106,9 +128,9 @@ impl Object {
     pub(crate) fn find(&self, name: &[u8]) -> Option<&Value>
         ensures { option_copied result ≡ find_member name.now self.now }
     {
-        match named(self.members.as_slice(), name) {
-            Some(m) => Some(&m.value),
-            None => None,
+        match self.kept.find(self.members.as_slice(), name) {
+            Ok(at) => Some(&self.members[at].value),
+            Err(_) => None,
         }
     }
 
@@ -122,7 +144,7 @@ impl Object {
         }
         for at in 0..self.members.len() {
             let (mine, theirs) = (&self.members[at], &other.members[at]);
-            if mine.name.bytes() != theirs.name.bytes() {
+            if mine.name() != theirs.name() {
                 return false;
             }
             if !alike(&mine.value, &theirs.value) {
@@ -136,19 +158,14 @@ impl Object {
     pub(crate) fn copy(&self, alloc: Global) -> Result<Object, NoMemory>
         ensures { IfOk result (λ o. o ≡ self.now) }
     {
-        let mut members = Vec::new(alloc);
+        let mut members = Vec::with_capacity(alloc, self.members.len())?;
         for m in &self.members {
-            let name = m.name.copy(alloc)?;
+            let name = owned(alloc, m.name())?;
             let value = copy(alloc, &m.value)?;
-            let Ok(()) = members.push(Member { name, value }) else {
-                return Err(NoMemory);
-            };
+            members.push(Member { name, value })?;
         }
-        Ok(Object {
-            members,
-            size: self.size,
-            depth: self.depth,
-        })
+        let kept = self.kept.copy(alloc)?;
+        Ok(Object { members, kept })
     }
 
     /// Writes from the member of this name on, or adds that as the last one.
@@ -163,14 +180,43 @@ impl Object {
     ) -> Result<(), ValueFault>
         requires shallow { length rest.now + spec_depth new < most_depth }
         requires small { room ≤ most_size }
-        ensures ok { OnOk result (put_at room (member name.now) rest.now new (Object' self.old) ≡ Ok (Object' self.new)) }
-        ensures refused { IfErr result (Refuses (put_at room (member name.now) rest.now new (Object' self.old))) }
+        ensures ok { OnOk result (put_at room (named name.now) rest.now new (Value.Object self.old) ≡ Ok (Value.Object self.new)) }
+        ensures refused { IfErr result (Refuses (put_at room (named name.now) rest.now new (Value.Object self.old))) }
         ensures unchanged { OnErr result (self.new ≡ self.old) }
     {
-        let at = place_of(self.members.as_slice(), name);
-        if at == self.members.len() {
-            return self.add_member(alloc, name, rest, new, room);
+        match self.kept.find(self.members.as_slice(), name) {
+            Ok(at) => self.write_at(alloc, at, rest, new, room),
+            Err(spot) => {
+                let beside = self.size_beside_next() + name_size(name);
+                let mut value = Value::Null;
+                write(alloc, &mut value, rest, new, room.saturating_sub(beside))?;
+                is_value(&value);
+                let (size, depth) = (beside + size(&value), depth(&value));
+                let name = owned(alloc, name)?;
+                add(&mut self.members, &mut self.kept, alloc, name, spot, value)?;
+                self.kept.add(size, depth);
+                Ok(())
+            }
         }
+    }
+
+    /// Writes from the value of a member that is there on.
+    #[cycle(write)]
+    fn write_at(
+        &mut self,
+        alloc: Global,
+        at: usize,
+        rest: &[Step],
+        new: Value,
+        room: u64,
+    ) -> Result<(), ValueFault>
+        requires within { at < length self.old }
+        requires shallow { length rest.now + spec_depth new < most_depth }
+        requires small { room ≤ most_size }
+        ensures ok { OnOk result (put_at room (named (name_at self.old at)) rest.now new (Value.Object self.old) ≡ Ok (Value.Object self.new)) }
+        ensures refused { IfErr result (Refuses (put_at room (named (name_at self.old at)) rest.now new (Value.Object self.old))) }
+        ensures unchanged { OnErr result (self.new ≡ self.old) }
+    {
         let child = &mut self.members[at].value;
         let (size_before, depth_before) = (size(child), depth(child));
         write(
@@ -178,69 +224,38 @@ impl Object {
             child,
             rest,
             new,
-            room.saturating_sub(self.size - size_before),
+            room.saturating_sub(self.kept.size() - size_before),
         )?;
+        is_value(child);
         let (size_after, depth_after) = (size(child), depth(child));
-        self.size = self.size - size_before + size_after;
-        self.depth = match depth_now(self.depth, depth_before, depth_after) {
-            Some(depth) => depth,
-            None => deepest(self.members.as_slice()) + 1,
-        };
+        let size = self.kept.size() - size_before + size_after;
+        self.kept.mend(
+            alloc,
+            self.members.as_slice(),
+            size,
+            depth_before,
+            depth_after,
+        );
         Ok(())
     }
 
-    /// Writes from null on, and adds what comes of it as the last member.
-    #[cycle(write)]
-    fn add_member(
-        &mut self,
-        alloc: Global,
-        name: &[u8],
-        rest: &[Step],
-        new: Value,
-        room: u64,
-    ) -> Result<(), ValueFault>
-        requires absent { spec_place_of name.now (names_of self.old) ≡ length self.old }
-        requires shallow { length rest.now + spec_depth new < most_depth }
-        requires small { room ≤ most_size }
-        ensures ok { OnOk result (put_at room (member name.now) rest.now new (Object' self.old) ≡ Ok (Object' self.new)) }
-        ensures refused { IfErr result (Refuses (put_at room (member name.now) rest.now new (Object' self.old))) }
-        ensures unchanged { OnErr result (self.new ≡ self.old) }
+    /// The object of these members. Refused is first one that would be `TooDeep`, then one that would be `TooLarge`.
+    pub(crate) fn from_members(members: Vec<Member>, kept: Kept) -> Result<Object, ValueFault>
+        requires distinct { IsDistinct (names members.items) }
+        requires index { NamesAre kept (names members.items) }
+        requires counts { CountsAre kept (map member_depth members.items) }
+        ensures ok { IfOk result (λ o. limited (Value.Object (map plain_member members.items)) ≡ Ok (Value.Object o)) }
+        ensures refused { IfErr result (Refuses (limited (Value.Object (map plain_member members.items)))) }
     {
-        let beside = self.size_beside_next() + name_size(name);
-        let mut value = Value::Null;
-        write(alloc, &mut value, rest, new, room.saturating_sub(beside))?;
-        let name = Text::of(alloc, name)?;
-        Ok(self.push_within(name, value)?)
-    }
-
-    /// Adds a member of another name, where the object then keeps the limit of size. The answer is whether it does.
-    pub(crate) fn push_if_small(&mut self, name: Vec<u8>, value: Value) -> Result<bool, NoMemory>
-        requires absent { spec_place_of name.items (names_of self.old) ≡ length self.old }
-        requires shallow { spec_depth value < most_depth }
-        ensures ok { IfOk result (PushesIfSmall self.old self.new name.items value) }
-        ensures unchanged { OnErr result (self.new ≡ self.old) }
-    {
-        if self.size_beside_next() + name_size(name.as_slice()) + size(&value) > MOST_SIZE {
-            return Ok(false);
+        let (size, depth) = measured(members.as_slice());
+        if depth > MOST_DEPTH {
+            return Err(ValueFault::TooDeep);
         }
-        self.push_within(Text::from_vec_within(name), value)?;
-        Ok(true)
-    }
-
-    /// Adds a member with which the object keeps the limits and has distinct names.
-    fn push_within(&mut self, name: Text, value: Value) -> Result<(), NoMemory>
-        requires { MemberFits name value self.old }
-        ensures ok { OnOk result (self.new ≡ self.old ++ (name, plain value) ∷ []) }
-        ensures unchanged { OnErr result (self.new ≡ self.old) }
-    {
-        let size_after = self.size_beside_next() + name_size(name.bytes()) + size(&value);
-        let depth_after = self.depth.max(depth(&value) + 1);
-        let Ok(()) = self.members.push(Member { name, value }) else {
-            return Err(NoMemory);
-        };
-        self.size = size_after;
-        self.depth = depth_after;
-        Ok(())
+        if size > MOST_SIZE {
+            return Err(ValueFault::TooLarge);
+        }
+        let kept = kept.with_numbers(size, depth);
+        Ok(Object { members, kept })
     }
 
     /// The size with one member more, but for that member's own.
@@ -249,12 +264,12 @@ impl Object {
         ensures small { result ≤ most_size + 10 }
     {
         let count = self.members.len();
-        self.size - leb_size(count) + leb_size(count + 1)
+        self.kept.size() - leb_size(count) + leb_size(count + 1)
     }
 
-    /// The names are distinct: a caller's proof learns it from this call, which does nothing.
-    pub fn has_distinct_names(&self)
-        ensures { IsDistinct (names_of self.now) }
+    /// An object is a value: a caller's proof learns it from this call, which does nothing.
+    pub fn is_value(&self)
+        ensures { IsValue (object self.now) }
     {
         let _ = &self.members;
     }
@@ -263,47 +278,64 @@ impl Object {
         ensures size { result ≡ data_size (object self.now) }
         ensures fits { data_size (object self.now) ≤ most_size }
     {
-        self.size
+        self.kept.size()
     }
 
     pub(crate) fn depth(&self) -> u32
         ensures depth { result ≡ data_depth (object self.now) }
         ensures fits { data_depth (object self.now) ≤ most_depth }
     {
-        self.depth
+        self.kept.depth()
     }
 }
 
-/// The member of this name.
-fn named<'m>(members: &'m [Member], name: &[u8]) -> Option<&'m Member>
-    ensures { option_copied result ≡ find (λ m. bytes_eq m.name name.now) members.now }
+/// The name in memory of its own.
+fn owned(alloc: Global, name: &[u8]) -> Result<Vec<u8>, NoMemory>
+    ensures { IfOk result (λ v. v.items ≡ name.now) }
 {
-    members.iter().find(|m| m.name.bytes() == name)
+    Ok(Vec::from_slice(alloc, name)?)
 }
 
-/// The place of the member of this name, or the number of members where there is none.
-fn place_of(members: &[Member], name: &[u8]) -> usize
-    ensures { result ≡ spec_place_of name.now (map (λ m. m.name) members.now) }
+/// Adds a member of another name, whose entry in the index belongs there.
+pub(crate) fn add(
+    members: &mut Vec<Member>,
+    kept: &mut Kept,
+    alloc: Global,
+    name: Vec<u8>,
+    spot: Spot,
+    value: Value,
+) -> Result<(), NoMemory>
+    requires index { NamesAre kept.old (names members.old.items) }
+    requires distinct { IsDistinct (names members.old.items) }
+    requires lacks { LacksAt kept.old (names members.old.items) name.items spot.block spot.entry }
+    ensures ok { OnOk result (map plain_member members.new.items ≡ map plain_member members.old.items ++ (name.items, plain value) ∷ []) }
+    ensures unchanged { OnErr result (members.new.items ≡ members.old.items) }
+    ensures depths { OnOk result (map member_depth members.new.items ≡ map member_depth members.old.items ++ spec_depth value ∷ []) }
+    ensures index { NamesAre kept.new (names members.new.items) }
+    ensures size { kept.new.size ≡ kept.old.size }
+    ensures depth { kept.new.depth ≡ kept.old.depth }
+    ensures counts { (ds : List ℕ) → CountsAre kept.old ds → CountsAre kept.new ds }
 {
-    for at in 0..members.len() {
-        if members[at].name.bytes() == name {
-            return at;
-        }
-    }
-    members.len()
+    // the member then has its place, whatever becomes of the index
+    members.try_reserve(1)?;
+    kept.add_name(alloc, members.as_slice(), name.as_slice(), spot)?;
+    let member = Member { name, value };
+    members.push(member)?;
+    Ok(())
 }
 
-/// How deep the deepest of their values is.
-fn deepest(members: &[Member]) -> u32
-    ensures depth { result ≡ member_depths members.now }
-    ensures fits { member_depths members.now ≤ most_depth }
+/// The size and depth that an object of these members has. A size above 2^64 - 1 counts as that.
+fn measured(members: &[Member]) -> (u64, u32)
+    ensures size { result.0 ≡ min (data_size (object (map plain_member members.now))) (2 ^ 64 - 1) }
+    ensures depth { result.1 ≡ data_depth (object (map plain_member members.now)) }
+    ensures sound { MembersAreSound (members_of (map plain_member members.now)) }
 {
-    let mut most = 0;
+    let mut whole = 1 + leb_size(members.len());
+    let mut deepest = 0;
     for m in members {
-        let d = depth(&m.value);
-        if d > most {
-            most = d;
-        }
+        is_value(&m.value);
+        whole = whole.saturating_add(name_size(m.name()) + size(&m.value));
+        deepest = depth(&m.value).max(deepest);
     }
-    most
+    (whole, deepest + 1)
 }

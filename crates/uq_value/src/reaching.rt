@@ -1,9 +1,9 @@
-// Where steps lead, and the first that leads nowhere.
+//! Where steps lead, and the first that leads nowhere.
 
 ghost use Rattle.std.specs.Prelude.{◌≡◌, Ok, Err, MatchResult, MatchOption, option_copied};
-ghost use Rattle.uq_value.specs.declared.value.Value.TheVariants.{Int, List, Null};
+ghost use Rattle.uq_value.specs.declared.value.Value.{Value};
 ghost use Rattle.uq_value.specs.declared.step.Step.TheVariants.{Member, Index};
-ghost use Rattle.uq_value.specs.Reaching.{Leads, Refused, reached};
+ghost use Rattle.uq_value.specs.Internal.Reaching.{Leads, Refused, reached};
 
 use crate::error::ValueFault;
 use crate::step::Step;
@@ -70,7 +70,7 @@ pub(crate) fn reach_index<'v>(v: &'v Value, at: &Value) -> Result<Option<&'v Val
 }
 
 fn reach_from_null<'v>(at: &Value) -> Result<Option<&'v Value>, ValueFault>
-    ensures { MatchResult result (λ o. reached (Index at.now) Null ≡ Ok (option_copied o)) (λ e. reached (Index at.now) Null ≡ Err e) }
+    ensures { MatchResult result (λ o. reached (Index at.now) Value.Null ≡ Ok (option_copied o)) (λ e. reached (Index at.now) Value.Null ≡ Err e) }
 {
     match at {
         Value::Int(z) => {

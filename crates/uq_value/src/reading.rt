@@ -1,3 +1,4 @@
+//! What stands in a value, one step on.
 ghost use Rattle.std.specs.Prelude.{◌≡◌, option_copied};
 ghost use Rattle.uq_value.specs.Reading.{get_member as spec_get_member, get_index as spec_get_index};
 

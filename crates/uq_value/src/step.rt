@@ -1,3 +1,4 @@
+//! The steps of a way into a value.
 use crate::text::Text;
 use crate::value::Value;
 

@@ -63,6 +63,12 @@ fn null_becomes_what_a_step_asks_for(rt: HostRuntime) {
 #[test]
 fn an_object_keeps_the_place_of_a_member_and_takes_its_last_value(rt: HostRuntime) {
     let alloc = rt.alloc();
+    let mut one = Value::Null;
+    put_member(alloc, &mut one, b"a", Value::Int(1)).expect(&rt, "a member");
+    let mut builder = ObjectBuilder::new(alloc);
+    set(&rt, alloc, &mut builder, b"a", Value::Int(1), 0);
+    let built = builder.finish(alloc).expect(&rt, "an object");
+    assert!(rt; same(&one, &Value::Object(built)));
     let mut object = pair(&rt, alloc, b"a", b"-7");
     put_member(alloc, &mut object, b"a", Value::Int(3)).expect(&rt, "a member");
     let seven = get_index(&object, &Value::Int(-7)).expect(&rt, "by the decimal text");
@@ -229,7 +235,7 @@ fn lists_and_objects_are_equal_by_content_in_order(rt: HostRuntime) {
 /// A text of so many bytes.
 fn long_text(rt: &impl Abort, alloc: Global, count: usize) -> Result<Value, ValueFault> {
     let bytes = vec![in alloc; b'x'; count].expect(rt, "room");
-    Ok(Value::Text(Text::from_vec(bytes)?))
+    Ok(Value::Text(Text::from_vec(alloc, bytes)?))
 }
 
 #[test]
@@ -298,26 +304,26 @@ fn a_value_is_128_deep_and_no_deeper(rt: HostRuntime) {
     );
 }
 
-/// Sets a member that has to be new, or not.
+/// Sets a member, which has to stand at a place.
 fn set(
     rt: &impl Abort,
     alloc: Global,
     builder: &mut ObjectBuilder,
     name: &[u8],
-    value: Option<Value>,
-    is_new: bool,
+    value: Value,
+    place: usize,
 ) {
     let name = Vec::from_slice(alloc, name).expect(rt, "a name");
-    assert_eq!(rt; builder.set(name, value), Ok(is_new));
+    assert_eq!(rt; builder.set(name, value), Ok(place));
 }
 
 #[test]
 fn an_object_is_built_of_the_last_values_in_the_first_places(rt: HostRuntime) {
     let alloc = rt.alloc();
     let mut builder = ObjectBuilder::new(alloc);
-    set(&rt, alloc, &mut builder, b"a", None, true);
-    set(&rt, alloc, &mut builder, b"b", Some(Value::Int(2)), true);
-    set(&rt, alloc, &mut builder, b"a", Some(Value::Int(1)), false);
+    set(&rt, alloc, &mut builder, b"a", Value::Null, 0);
+    set(&rt, alloc, &mut builder, b"b", Value::Int(2), 1);
+    set(&rt, alloc, &mut builder, b"a", Value::Int(1), 0);
     let object = builder.finish(alloc).expect(&rt, "an object");
     assert!(rt; same(&Value::Object(object), &pair(&rt, alloc, b"a", b"b")));
 }
@@ -325,13 +331,197 @@ fn an_object_is_built_of_the_last_values_in_the_first_places(rt: HostRuntime) {
 #[test]
 fn an_object_that_is_too_deep_or_too_large_is_not_built(rt: HostRuntime) {
     let alloc = rt.alloc();
+    let largest = long_text(&rt, alloc, 16_777_147).expect(&rt, "a text");
     let mut large = ObjectBuilder::new(alloc);
-    set(&rt, alloc, &mut large, b"a", None, true);
-    assert_eq!(rt; large.finish(alloc).err(), Some(ValueFault::TooLarge));
-    let mut deep = ObjectBuilder::new(alloc);
+    set(&rt, alloc, &mut large, b"a", largest, 0);
     let mut value = Value::Null;
     assert_eq!(rt; put_deep(&rt, alloc, &mut value, 128, Value::Null), Ok(()));
-    set(&rt, alloc, &mut deep, b"a", None, true);
-    set(&rt, alloc, &mut deep, b"b", Some(value), true);
+    let mut deep = ObjectBuilder::new(alloc);
+    set(&rt, alloc, &mut deep, b"a", value, 0);
+    assert_eq!(rt; large.finish(alloc).err(), Some(ValueFault::TooLarge));
     assert_eq!(rt; deep.finish(alloc).err(), Some(ValueFault::TooDeep));
+}
+
+/// One of nine values: those whose truth only the definition decides.
+fn plain_one(rt: &impl Abort, alloc: Global, which: usize) -> Value {
+    match which {
+        0 => Value::Null,
+        1 => Value::Bool(false),
+        2 => Value::Bool(true),
+        3 => Value::Int(0),
+        4 => Value::Int(1),
+        5 => text(rt, alloc, b""),
+        6 => text(rt, alloc, b"0"),
+        7 => Value::List(List::new(alloc)),
+        _ => Value::Object(Object::new(alloc)),
+    }
+}
+
+#[test]
+fn null_false_zero_and_what_is_empty_are_false(rt: HostRuntime) {
+    let alloc = rt.alloc();
+    let table = [false, false, true, false, true, false, true, false, false];
+    for (which, want) in table.iter().enumerate() {
+        let value = plain_one(&rt, alloc, which);
+        assert_eq!(rt; truth(&value), *want, "value {which}");
+    }
+}
+
+/// The whole number that stands at an index.
+fn number_at(value: &Value, at: &Value) -> Option<i64> {
+    match get_index(value, at)? {
+        Value::Int(z) => Some(*z),
+        _ => None,
+    }
+}
+
+#[test]
+fn only_lists_by_numbers_and_objects_by_names_have_something_at_an_index(rt: HostRuntime) {
+    let alloc = rt.alloc();
+    let list = ints(&rt, alloc, &[10, 20]);
+    let object = pair(&rt, alloc, b"0", b"");
+    let in_list = [None, None, None, Some(10), Some(20), None, None, None, None];
+    let in_object = [
+        None,
+        None,
+        None,
+        Some(1),
+        None,
+        Some(2),
+        Some(1),
+        None,
+        None,
+    ];
+    for which in 0..9 {
+        let at = plain_one(&rt, alloc, which);
+        assert_eq!(rt;
+            number_at(&list, &at),
+            in_list[which],
+            "in a list, index {which}"
+        );
+        assert_eq!(rt;
+            number_at(&object, &at),
+            in_object[which],
+            "in an object, index {which}"
+        );
+        for kind in 0..9 {
+            let value = plain_one(&rt, alloc, kind);
+            assert_eq!(rt;
+                number_at(&value, &at),
+                None,
+                "in value {kind}, index {which}"
+            );
+        }
+    }
+    assert!(rt; get_member(&list, b"0").is_none());
+    assert!(rt; get_index(&list, &Value::Int(2)).is_none());
+}
+
+/// The deepest list.
+fn deepest(rt: &impl Abort, alloc: Global) -> Value {
+    let mut value = Value::Null;
+    put_deep(rt, alloc, &mut value, 128, Value::Null).expect(rt, "a deep list");
+    value
+}
+
+#[test]
+fn a_step_that_leads_nowhere_comes_before_depth_and_depth_before_size(rt: HostRuntime) {
+    let alloc = rt.alloc();
+    let mut number = Value::Int(7);
+    assert_eq!(rt;
+        put_member(alloc, &mut number, b"a", deepest(&rt, alloc)),
+        Err(ValueFault::NotContainer)
+    );
+    let mut list = ints(&rt, alloc, &[1]);
+    assert_eq!(rt;
+        put_index(alloc, &mut list, &Value::Int(2), deepest(&rt, alloc)),
+        Err(ValueFault::IndexRange)
+    );
+    let mut large = Value::Null;
+    let largest = long_text(&rt, alloc, 16_777_145).expect(&rt, "a text");
+    put(alloc, &mut large, &[Step::Append], largest).expect(&rt, "a list");
+    assert_eq!(rt;
+        put_index(alloc, &mut large, &Value::Int(1), deepest(&rt, alloc)),
+        Err(ValueFault::TooDeep)
+    );
+    let mut values = Vec::new(alloc);
+    values.push(large).expect(&rt, "room");
+    values.push(deepest(&rt, alloc)).expect(&rt, "room");
+    assert_eq!(rt; List::from_values(values).err(), Some(ValueFault::TooDeep));
+}
+
+#[test]
+fn a_length_takes_a_byte_up_to_127_and_two_from_128_on(rt: HostRuntime) {
+    let alloc = rt.alloc();
+    for (count, want) in [(127, 129), (128, 131)] {
+        let bytes = long_text(&rt, alloc, count).expect(&rt, "a text");
+        assert_eq!(rt; size(&bytes), want);
+        let mut list = List::with_capacity(alloc, count).expect(&rt, "a list");
+        let mut values = Vec::new(alloc);
+        for _ in 0..count {
+            list.push(Value::Null).expect(&rt, "an item");
+            values.push(Value::Null).expect(&rt, "room");
+        }
+        let made = List::from_values(values).expect(&rt, "a list");
+        let list = Value::List(list);
+        assert_eq!(rt; size(&list), want);
+        assert!(rt; same(&list, &Value::List(made)));
+    }
+}
+
+/// The name of the nth of 1,009 members, in no order.
+fn mixed_name(rt: &impl Abort, alloc: Global, n: u32) -> Vec<u8> {
+    let mut decimal = itoa::Buffer::new();
+    let name = decimal.format(n % 1_009 * 541 % 1_009);
+    Vec::from_slice(alloc, name.as_bytes()).expect(rt, "a name")
+}
+
+#[test]
+fn each_of_many_members_is_found_in_place_and_in_a_copy(rt: HostRuntime) {
+    let alloc = rt.alloc();
+    let mut written = Value::Null;
+    let mut builder = ObjectBuilder::new(alloc);
+    for n in 0..1_009 {
+        let name = mixed_name(&rt, alloc, n);
+        put_member(alloc, &mut written, name.as_slice(), Value::Null).expect(&rt, "a member");
+        assert_eq!(rt; builder.set(name, Value::Int(n.into())), Ok(n as usize));
+    }
+    for n in 0..1_009 {
+        let name = mixed_name(&rt, alloc, n);
+        assert_eq!(rt; builder.set(name, Value::Int(-1)), Ok(n as usize));
+        let name = mixed_name(&rt, alloc, n);
+        put_member(alloc, &mut written, name.as_slice(), Value::Int(-1)).expect(&rt, "a member");
+    }
+    let built = builder.finish(alloc).expect(&rt, "an object");
+    let copied = copy(alloc, &Value::Object(built)).expect(&rt, "a copy");
+    assert!(rt; same(&written, &copied));
+    for n in 0..1_009 {
+        let name = mixed_name(&rt, alloc, n);
+        let found = get_member(&copied, name.as_slice()).expect(&rt, "a member");
+        assert!(rt; same(found, &Value::Int(-1)));
+    }
+    assert!(rt; get_member(&copied, b"1009").is_none());
+}
+
+#[test]
+fn the_depth_falls_with_the_last_part_that_is_as_deep(rt: HostRuntime) {
+    let alloc = rt.alloc();
+    let mut root = Value::Null;
+    for _ in 0..40 {
+        let part = Value::List(List::new(alloc));
+        put(alloc, &mut root, &[Step::Append], part).expect(&rt, "an item");
+    }
+    let twice = [Step::Index(Value::Int(20)), Step::Append];
+    let inner = Value::List(List::new(alloc));
+    put(alloc, &mut root, &twice, inner).expect(&rt, "a deeper item");
+    assert_eq!(rt; depth(&root), 3);
+    for at in 0..40 {
+        let want = if at <= 20 { 3 } else { 2 };
+        assert_eq!(rt; depth(&root), want, "before item {at}");
+        put_index(alloc, &mut root, &Value::Int(at), Value::Null).expect(&rt, "a write");
+    }
+    assert_eq!(rt; depth(&root), 1);
+    let last = Value::List(List::new(alloc));
+    put(alloc, &mut root, &[Step::Append], last).expect(&rt, "an item");
+    assert_eq!(rt; (depth(&root), size(&root)), (2, 44));
 }

@@ -1,7 +1,7 @@
-ghost use Rattle.std.specs.Prelude.{◌≡◌, ◌≤◌, ◌↔◌, IsOk, IfOk, IfErr, OnOk};
+//! Texts: bytes within the limit of a value.
+ghost use Rattle.std.specs.Prelude.{◌≡◌, ◌≤◌, IfOk, IfErr, OnOk};
 ghost use Rattle.uq_value.specs.Size.{text_size, most_size};
 ghost use Rattle.uq_value.specs.Faults.{TextFault};
-ghost use Rattle.uq_value.specs.declared.error.ValueFault.TheVariants.{TooLarge};
 
 use crate::error::{NoMemory, ValueFault};
 use crate::measuring::{MOST_SIZE, name_size};
@@ -43,17 +43,15 @@ impl Text {
         requires { text_size bytes.now ≤ most_size }
         ensures { IfOk result (λ t. t ≡ bytes.now) }
     {
-        let Ok(bytes) = Vec::from_slice(alloc, bytes) else {
-            return Err(NoMemory);
-        };
+        let bytes = Vec::from_slice(alloc, bytes)?;
         Ok(Text { bytes })
     }
 
     /// A text of bytes that are its own from now on. It is `TooLarge` exactly where its size is above the limit.
-    pub fn from_vec(bytes: Vec<u8>) -> Result<Text, ValueFault>
+    pub fn from_vec(_alloc: Global, bytes: Vec<u8>) -> Result<Text, ValueFault>
         ensures ok { IfOk result (λ t. t ≡ bytes.items) }
-        ensures exact { IsOk result ↔ (text_size bytes.items ≤ most_size) }
-        ensures fault { IfErr result (λ e. e ≡ TooLarge) }
+        ensures fits { OnOk result (text_size bytes.items ≤ most_size) }
+        ensures fault { IfErr result (TextFault bytes.items) }
     {
         if 1 + name_size(bytes.as_slice()) > MOST_SIZE {
             return Err(ValueFault::TooLarge);

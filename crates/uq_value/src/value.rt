@@ -1,3 +1,4 @@
+//! The kinds of values.
 use crate::list::List;
 use crate::object::Object;
 use crate::text::Text;

@@ -1,5 +1,5 @@
-// Writing in place. A write goes down to the end of its steps with the size that is left for what stands there. All
-// that can be refused is refused before anything changes, and lists and objects mend their kept numbers on the way up.
+//! Writing in place. A write goes down to the end of its steps with the size that is left for what stands there. All
+//! that can be refused is refused before anything changes, and lists and objects mend their kept numbers on the way up.
 
 ghost use Rattle.std.specs.Prelude.{◌≡◌, ◌≤◌, ◌<◌, ◌+◌, [], ◌∷◌, length, Ok, OnOk, OnErr, IfErr};
 ghost use Rattle.uq_value.specs.Size.{most_size};
@@ -7,12 +7,12 @@ ghost use Rattle.uq_value.specs.Depth.{most_depth};
 ghost use Rattle.uq_value.specs.Plain.{depth as spec_depth};
 ghost use Rattle.uq_value.specs.Put.{put as spec_put};
 ghost use Rattle.uq_value.specs.Faults.{Refuses};
-ghost use Rattle.uq_value.specs.Writing.{put_in};
+ghost use Rattle.uq_value.specs.Internal.Writing.{put_in};
 ghost use Rattle.uq_value.specs.declared.step.Step.TheVariants.{Member, Index, Append};
 
 use crate::error::ValueFault;
 use crate::list::List;
-use crate::measuring::{MOST_DEPTH, MOST_SIZE, depth, size, within_limits};
+use crate::measuring::{MOST_DEPTH, MOST_SIZE, depth, is_value, size};
 use crate::object::Object;
 use crate::reaching::{first_fault, reach_index, reach_member};
 use crate::step::Step;
@@ -30,7 +30,7 @@ pub fn put(alloc: Global, root: &mut Value, steps: &[Step], new: Value) -> Resul
     ensures refused { IfErr result (Refuses (spec_put root.old steps.now new)) }
     ensures unchanged { OnErr result (root.new ≡ root.old) }
 {
-    within_limits(root);
+    is_value(root);
     if steps.len() > (MOST_DEPTH - depth(&new)) as usize {
         return Err(first_fault(root, steps).unwrap_or(ValueFault::TooDeep));
     }
@@ -43,7 +43,7 @@ pub fn put_member(alloc: Global, v: &mut Value, name: &[u8], new: Value) -> Resu
     ensures refused { IfErr result (Refuses (spec_put v.old (Member name.now ∷ []) new)) }
     ensures unchanged { OnErr result (v.new ≡ v.old) }
 {
-    within_limits(v);
+    is_value(v);
     if depth(&new) >= MOST_DEPTH {
         reach_member(v, name)?;
         return Err(ValueFault::TooDeep);
@@ -57,7 +57,7 @@ pub fn put_index(alloc: Global, v: &mut Value, at: &Value, new: Value) -> Result
     ensures refused { IfErr result (Refuses (spec_put v.old (Index at.now ∷ []) new)) }
     ensures unchanged { OnErr result (v.new ≡ v.old) }
 {
-    within_limits(v);
+    is_value(v);
     if depth(&new) >= MOST_DEPTH {
         reach_index(v, at)?;
         return Err(ValueFault::TooDeep);

@@ -25,5 +25,5 @@ decreases-list::List::write_at l = 6 * length l.rest.now + 1
 abbrev pub decreases-object::Object::write_member : goal.decreases-object::Object::write_member
 decreases-object::Object::write_member l = 6 * length l.rest.now + 3
 
-abbrev pub decreases-object::Object::add_member : goal.decreases-object::Object::add_member
-decreases-object::Object::add_member l = 6 * length l.rest.now + 1
+abbrev pub decreases-object::Object::write_at : goal.decreases-object::Object::write_at
+decreases-object::Object::write_at l = 6 * length l.rest.now + 1

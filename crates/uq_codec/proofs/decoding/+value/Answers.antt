@@ -2,7 +2,7 @@ use Rattle.std.proofs.Common.{ℕ, suc, ◌+◌, ◌-◌, [], ◌∷◌, ◌++�
 use Rattle.std.proofs.lemmas.Result.{err_from_is_err_and}
 use Rattle.uq_value.specs.Data.{Bytes, Datas}
 use Rattle.uq_codec.specs.Stored.{IsName}
-use Rattle.uq_codec.specs.Reading.{Front}
+use Rattle.uq_codec.specs.Internal.Reading.{Front}
 use Rattle.uq_value.specs.Plain.{plain}
 use Rattle.uq_codec.specs.declared.kind.Kind.TheVariants as kind
 use Rattle.uq_codec.proofs.Decoded.{ItemsSoFar, no_items_yet, one_item_more, at_kind, no_kind_next}
@@ -11,7 +11,7 @@ use Rattle.uq_codec.proofs.Objects.{MembersSoFar, no_name, member_fails, member_
 use Rattle.uq_codec.proofs.decoding.+value.Goals as goal
 
 pub items-loop-init : goal.items-loop-init
-items-loop-init t c = subst (λ (ds : Datas). ItemsSoFar (suc c.args.room) 0 ds c.args.bytes.now c.args.bytes.now) (sym c.new-found.ensures) (no_items_yet c.args.room c.args.bytes.now)
+items-loop-init t c = subst (λ (ds : Datas). ItemsSoFar (suc c.args.room) 0 ds c.args.bytes.now c.args.bytes.now) (sym c.in-Ok.ensures) (no_items_yet c.args.room c.args.bytes.now)
 
 pub items-returns-in_err-item : goal.items-returns-in_err-item
 items-returns-in_err-item t c =
@@ -60,29 +60,29 @@ member-returns t c =
     member_found c.args.room c.args.bytes.now c.in_ok-name.name.items c.in-Some.rest.now c.in_ok-value.rest.now c.in_ok-value.value
     (subst (λ (n : Bytes). Front (λ word. IsName word n) c.args.bytes.now c.in-Some.rest.now) (sym c.in_ok-name.ensures.items) c.in-Some.ensures.0) c.in_ok-value.ensures
 
-pub members-loop-init : goal.members-loop-init
-members-loop-init t c = no_members_yet c.args.room c.new-found.result c.args.bytes.now c.new-found.ensures
+pub members-loop-at-init : goal.members-loop-at-init
+members-loop-at-init t c = no_members_yet c.args.room c.new-found.result c.args.bytes.now c.new-found.ensures
 
 pub members-returns-in_err-name : goal.members-returns-in_err-name
 members-returns-in_err-name t c =
     let p = err_from_is_err_and c.from_residual.result c.from_residual.ensures.1 in
-    rw (p.1, p.2) (members_fail c.args.room c.loop.counter c.args.count c.loop.found c.args.bytes.now c.loop.rest.now c.in_err-name.field-0.0 c.loop.invariant (omega (arith, c.loop-test.true)) c.in_err-name.ensures)
+    rw (p.1, p.2) (members_fail c.args.room c.loop-at.at c.args.count c.loop-at.found c.args.bytes.now c.loop-at.rest.now c.in_err-name.field-0.0 c.loop-at.invariant (omega (arith, c.loop-at-test.true)) c.in_err-name.ensures)
 
-pub members-returns-then-not-is_new : goal.members-returns-then-not-is_new
-members-returns-then-not-is_new t c =
-    repeated c.args.room c.loop.counter c.args.count c.loop.found c.set.new.self c.in_ok-name.name.items c.in_ok-name.value c.args.bytes.now c.loop.rest.now c.in_ok-name.behind.now c.in_ok-is_new.is_new
-    c.loop.invariant (omega (arith, c.loop-test.true)) c.in_ok-name.ensures.0 c.in_ok-is_new.ensures.ok c.if-not-is_new.true
+pub members-returns-then-place-at : goal.members-returns-then-place-at
+members-returns-then-place-at t c =
+    repeated c.args.room c.loop-at.at c.args.count c.in_ok-place.place c.loop-at.found c.in_ok-name.name.items c.in_ok-name.value c.args.bytes.now c.loop-at.rest.now c.in_ok-name.behind.now
+    c.loop-at.invariant (omega (arith, c.loop-at-test.true)) c.in_ok-name.ensures.0 c.in_ok-place.ensures.place (omega (arith, c.if-place-at.true))
 
-pub members-loop-preserved : goal.members-loop-preserved
-members-loop-preserved t c =
-    subst (λ (n : ℕ). MembersSoFar (suc c.args.room) n c.set.new.self c.args.bytes.now c.in_ok-name.behind.now) (sym (add-one c.loop.counter))
-    (one_member_more c.args.room c.loop.counter c.loop.found c.set.new.self c.in_ok-name.name.items c.in_ok-name.value c.args.bytes.now c.loop.rest.now c.in_ok-name.behind.now c.in_ok-is_new.is_new
-    c.loop.invariant c.in_ok-name.ensures.0 c.in_ok-name.ensures.1 c.in_ok-is_new.ensures.ok c.if-not-is_new.false)
+pub members-loop-at-preserved : goal.members-loop-at-preserved
+members-loop-at-preserved t c =
+    subst (λ (n : ℕ). MembersSoFar (suc c.args.room) n c.set.new.self c.args.bytes.now c.in_ok-name.behind.now) (sym (add-one c.loop-at.at))
+    (one_member_more c.args.room c.loop-at.at c.in_ok-place.place c.loop-at.found c.set.new.self c.in_ok-name.name.items c.in_ok-name.value c.args.bytes.now c.loop-at.rest.now c.in_ok-name.behind.now
+    c.loop-at.invariant c.in_ok-name.ensures.0 c.in_ok-name.ensures.1 c.in_ok-place.ensures.place (omega (arith, c.if-place-at.false)) c.in_ok-place.ensures.ok c.in_ok-place.ensures.distinct)
 
 pub members-returns : goal.members-returns
 members-returns t c =
-    members_found c.args.room c.args.count c.loop.found c.args.bytes.now c.loop.rest.now
-    (subst (λ (n : ℕ). MembersSoFar (suc c.args.room) n c.loop.found c.args.bytes.now c.loop.rest.now) (omega (arith, c.loop-test.false, c.loop.auto.counter-end)) c.loop.invariant)
+    members_found c.args.room c.args.count c.loop-at.found c.args.bytes.now c.loop-at.rest.now
+    (subst (λ (n : ℕ). MembersSoFar (suc c.args.room) n c.loop-at.found c.args.bytes.now c.loop-at.rest.now) (omega (arith, c.loop-at-test.false, c.loop-at.auto.at-end)) c.loop-at.invariant)
 
 pub object-returns-in_default : goal.object-returns-in_default
 object-returns-in_default t c = no_object c.args.bytes.now c.in_default.ensures c.args.room
@@ -97,12 +97,12 @@ object-returns-in_err-members t c =
 
 pub object-returns-in-Ok : goal.object-returns-in-Ok
 object-returns-in-Ok t c =
-    object_found c.args.room (c.args.room - 1) c.in-Some.count c.args.bytes.now c.in-Some.rest.now c.in_ok-members.rest.now c.in_ok-members.members c.in-Ok.object (omega (arith, c.if-room-eq0.false)) c.in-Some.ensures.0 c.in_ok-members.ensures c.in-Ok.ensures
+    object_found c.args.room (c.args.room - 1) c.in-Some.count c.args.bytes.now c.in-Some.rest.now c.in_ok-members.rest.now c.in_ok-members.members c.in-Ok.object (omega (arith, c.if-room-eq0.false)) c.in-Some.ensures.0 c.in_ok-members.ensures c.in-Ok.ensures.ok
 
 pub object-returns-in-Err : goal.object-returns-in-Err
 object-returns-in-Err t c =
     object_refused c.args.room (c.args.room - 1) c.in-Some.count c.args.bytes.now c.in-Some.rest.now c.in_ok-members.rest.now c.in_ok-members.members c.in-Err.fault c.refused.result c.requires (omega (arith, c.if-room-eq0.false)) c.in-Some.ensures.0
-    c.in_ok-members.ensures c.in-Err.ensures c.refused.ensures
+    c.in_ok-members.ensures c.in-Err.ensures.refused c.refused.ensures
 
 pub value-returns-in_default : goal.value-returns-in_default
 value-returns-in_default t c d fits = no_kind_next c.args.bytes.now c.in_default.ensures d

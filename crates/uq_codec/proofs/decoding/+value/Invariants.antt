@@ -24,5 +24,5 @@ decreases-member l = 8 * l.room + 6
 abbrev pub invariant-items-loop : goal.invariant-items-loop
 invariant-items-loop l = ItemsSoFar (suc l.room) l.counter l.found l.bytes l.rest
 
-abbrev pub invariant-members-loop : goal.invariant-members-loop
-invariant-members-loop l = MembersSoFar (suc l.room) l.counter l.found l.bytes l.rest
+abbrev pub invariant-members-loop-at : goal.invariant-members-loop-at
+invariant-members-loop-at l = MembersSoFar (suc l.room) l.at l.found l.bytes l.rest

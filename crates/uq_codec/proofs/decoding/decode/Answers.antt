@@ -8,4 +8,4 @@ returns-in_err-value c =
     rw (p.1, p.2) (not_decoded c.args.bytes.now c.in_err-value.field-0.0 c.in_err-value.ensures)
 
 pub returns : goal.returns
-returns c = decoded c.args.bytes.now c.in_ok-value.rest.now c.in_ok-value.value c.in_ok-value.ensures c.within_limits.ensures.small
+returns c = decoded c.args.bytes.now c.in_ok-value.rest.now c.in_ok-value.value c.in_ok-value.ensures c.is_value.ensures.small

@@ -1,6 +1,6 @@
 use Rattle.uq_value.specs.Plain.{plain}
 use Rattle.uq_codec.proofs.Determined.{spelling_same}
-use Rattle.uq_codec.proofs.Values.{plain_one}
+use Rattle.uq_value.specs.Laws.Levels.{plain_one}
 use Rattle.uq_codec.proofs.laws.none_begins.Goals as goal
 
 pub returns : goal.returns

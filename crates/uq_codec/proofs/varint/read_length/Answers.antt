@@ -11,18 +11,18 @@ returns-then-weight-gt1 c n small behind f =
     (with_first c.args.bytes.now c.loop-weight.rest.now c.loop-weight.low c.loop-weight.weight c.in-len1-up.len_at_least c.loop-weight.invariant) n behind f in
     absurd (omega (arith, end.counts c.if-weight-gt1.true, c.if-group-eq0.true))
 
-pub returns-then-n-gt-MOST_SIZE : goal.returns-then-n-gt-MOST_SIZE
-returns-then-n-gt-MOST_SIZE c n small behind f =
+pub returns-then-n-gt-MOST_LENGTH : goal.returns-then-n-gt-MOST_LENGTH
+returns-then-n-gt-MOST_LENGTH c n small behind f =
     let end = is_last c.args.bytes.now (others_of c.loop-weight.rest.now) (first_of c.loop-weight.rest.now) c.loop-weight.low c.loop-weight.weight c.if-group-lt128.true
     (with_first c.args.bytes.now c.loop-weight.rest.now c.loop-weight.low c.loop-weight.weight c.in-len1-up.len_at_least c.loop-weight.invariant) n behind f in
-    absurd (omega (arith, end.number, c.if-n-gt-MOST_SIZE.true, small))
+    absurd (omega (arith, end.number, c.if-n-gt-MOST_LENGTH.true, small))
 
-pub returns-else-n-gt-MOST_SIZE : goal.returns-else-n-gt-MOST_SIZE
-returns-else-n-gt-MOST_SIZE c = (
+pub returns-else-n-gt-MOST_LENGTH : goal.returns-else-n-gt-MOST_LENGTH
+returns-else-n-gt-MOST_LENGTH c = (
   last_read c.args.bytes.now (others_of c.loop-weight.rest.now) (first_of c.loop-weight.rest.now) c.loop-weight.low c.loop-weight.weight c.if-group-lt128.true
       (λ h. omega (arith, h, c.else-group-eq0.either))
       (with_first c.args.bytes.now c.loop-weight.rest.now c.loop-weight.low c.loop-weight.weight c.in-len1-up.len_at_least c.loop-weight.invariant),
-  c.if-n-gt-MOST_SIZE.false,
+  c.if-n-gt-MOST_LENGTH.false,
 )
 
 pub loop-weight-preserved : goal.loop-weight-preserved

@@ -1,5 +1,5 @@
 use Rattle.std.proofs.Common.{sym, subst}
-use Rattle.uq_codec.specs.Reading.{ReadsName}
+use Rattle.uq_codec.specs.Internal.Reading.{ReadsName}
 use Rattle.uq_codec.proofs.Lengths.{no_name, name_cut}
 use Rattle.uq_codec.proofs.varint.read_name.Goals as goal
 

@@ -1,14 +1,19 @@
-use Rattle.std.proofs.Common.{◌≡◌, ◌≤◌, Option, Err, List, ℕ, length, refl, sym, ap, subst, ◌∙◌, arith}
+use Rattle.std.proofs.Common.{◌≡◌, Option, Err, refl, sym, ap, subst, ◌∙◌, arith}
 use Rattle.std.proofs.lemmas.Result.{err_from_is_err_and}
 use Rattle.std.specs.FinMap.{insert}
-use Rattle.std.specs.Option.{option_copied, IsSomeAnd}
+use Rattle.std.specs.Option.{option_copied, IsSomeAnd, ok_or}
+use Rattle.uq_page.specs.declared.error.ChainFault.TheVariants.{Corrupt}
 use Rattle.uq_page.specs.Page.{bytes_of}
 use Rattle.uq_hash.specs.declared.slot.Slot.{Slot}
-use Rattle.uq_hash.specs.Map.{IsBucket, cells_len, head_of}
+use Rattle.uq_hash.specs.Map.{cells_len}
+use Rattle.uq_hash.specs.OnePage.{IsOnePage, head_of}
+use Rattle.uq_hash.specs.WalkOrder.{hash_start}
+use Rattle.uq_hash.proofs.HeldLemmas.{opened, some_same}
 use Rattle.uq_hash.specs.Slot.{IsSlot}
-use Rattle.uq_hash.proofs.CauseLemmas.{handed_on, corrupted}
-use Rattle.uq_hash.proofs.MapLemmas.{read_bucket_is, some_same}
+use Rattle.uq_hash.proofs.CauseLemmas.{handed_on, corrupted, some_fault}
+use Rattle.uq_hash.proofs.MapLemmas.{read_bucket_is}
 use Rattle.uq_hash.proofs.RoomLemmas.{room_after, shifted, small_sums}
+use Rattle.uq_hash.proofs.RefusedLemmas.{no_head, no_slot}
 use Rattle.uq_hash.proofs.room.fits.Goals as goal
 use Rattle.uq_hash.proofs.room.fits.Goals.{then-h-gt-PAGE-via-then-h-gt-PAGE, then-h-gt-PAGE-via-else-h-gt-PAGE+then-h-gt-PAGE-2}
 
@@ -21,14 +26,33 @@ returns-in_err-page-clause-cause g c =
 pub returns-then-h-gt-PAGE-clause-cause : goal.returns-then-h-gt-PAGE-clause-cause
 returns-then-h-gt-PAGE-clause-cause g c =
     corrupted (g.P.Pages.pages c.args.p.now) c.args.h.now (g.P.Pages.faults c.args.p.now) (g.P.Pages.faults c.read_root.new.p) (g.P.Pages.is_sound c.read_root.new.p)
-    _ refl c.in_ok-page.ensures.cause.later (c.in_ok-page.ensures.cause.sound (λ failed. cc))
-    (λ pages told m held. let small = small_sums pages c.args.h.now m held in elim c.then-h-gt-PAGE.branch [ then-h-gt-PAGE-via-then-h-gt-PAGE w ↦ omega (arith, small) | then-h-gt-PAGE-via-else-h-gt-PAGE+then-h-gt-PAGE-2 w ↦ omega (arith, small) ])
+    _ refl (c.in_ok-page.ensures.cause.pages.quiet (λ failed. cc)) c.in_ok-page.ensures.cause.pages.later (c.in_ok-page.ensures.cause.pages.sound (λ failed. cc))
+    (λ pages told m whole. let small = small_sums pages c.args.h.now m (opened pages c.args.h.now m whole) in elim c.then-h-gt-PAGE.branch [ then-h-gt-PAGE-via-then-h-gt-PAGE w ↦ omega (arith, small) | then-h-gt-PAGE-via-else-h-gt-PAGE+then-h-gt-PAGE-2 w ↦ omega (arith, small) ])
 
 pub returns-clause-fits : goal.returns-clause-fits
-returns-clause-fits g c pages told m held =
-    let is : IsBucket (bytes_of c.in_ok-page.page) held.cells = read_bucket_is pages c.args.h.now m (bytes_of c.in_ok-page.page) held (c.in_ok-page.ensures.page pages told) in
-    let head : c.in_ok-head.head ≡ head_of held.cells = some_same (sym c.in_ok-head.ensures.ok_part ∙ c.read_head.ensures.exact held.cells is) in
-    let slot : IsSlot held.cells c.args.key.now c.in_ok-slot.slot.from c.in_ok-slot.slot.to (option_copied c.in_ok-slot.slot.value) =
-    subst (λ (o : Option Slot). IsSomeAnd o (λ s. IsSlot held.cells c.args.key.now s.from s.to (option_copied s.value))) c.in_ok-slot.ensures.ok_part (c.locate.ensures.exact held.cells is (ap (λ h. h.cells) head)) in
+returns-clause-fits g c pages told m whole =
+    let held = opened pages c.args.h.now m whole in
+    let is : IsOnePage (hash_start c.args.h.now) (bytes_of c.in_ok-page.page) held.cells = read_bucket_is pages c.args.h.now m (bytes_of c.in_ok-page.page) held (c.in_ok-page.ensures.page pages told) in
+    let head : c.in_ok-head.head ≡ head_of held.cells = some_same (sym c.in_ok-head.ensures.ok_part ∙ c.read_head.ensures.exact (hash_start c.args.h.now) held.cells is) in
+    let slot : IsSlot (hash_start c.args.h.now) held.cells c.args.key.now c.in_ok-slot.slot.from c.in_ok-slot.slot.to (option_copied c.in_ok-slot.slot.value) =
+    subst (λ (o : Option Slot). IsSomeAnd o (λ s. IsSlot (hash_start c.args.h.now) held.cells c.args.key.now s.from s.to (option_copied s.value))) c.in_ok-slot.ensures.ok_part (c.locate.ensures.exact held.cells is (ap (λ h. h.cells) head)) in
     let room = room_after pages c.args.h.now m c.args.key.now c.args.value.now c.in_ok-slot.slot.from c.in_ok-slot.slot.to (option_copied c.in_ok-slot.slot.value) c.in_ok-head.head held slot head in
     shifted _ _ (cells_len (insert m c.args.key.now c.args.value.now)) (omega (arith, room))
+
+pub returns-in_err-head-clause-cause : goal.returns-in_err-head-clause-cause
+returns-in_err-head-clause-cause g c =
+    let fault = err_from_is_err_and c.from_residual-in_err-head.result c.from_residual-in_err-head.ensures.1 in
+    let none = c.in_err-head.ensures.ok_part in
+    let is_corrupt : c.from_residual-in_err-head.result ≡ Err Corrupt = fault.1 ∙ ap Err fault.2 ∙ ap Err (some_fault (c.in_err-head.ensures.value ∙ ap (λ o. ok_or o Corrupt) none)) in
+    corrupted (g.P.Pages.pages c.args.p.now) c.args.h.now (g.P.Pages.faults c.args.p.now) (g.P.Pages.faults c.read_root.new.p) (g.P.Pages.is_sound c.read_root.new.p)
+    c.from_residual-in_err-head.result is_corrupt (c.in_ok-page.ensures.cause.pages.quiet (λ failed. cc)) c.in_ok-page.ensures.cause.pages.later (c.in_ok-page.ensures.cause.pages.sound (λ failed. cc))
+    (no_head (g.P.Pages.pages c.args.p.now) c.args.h.now c.in_ok-page.page c.read_head.result c.in_ok-page.ensures.page c.read_head.ensures.exact none)
+
+pub returns-in_err-slot-clause-cause : goal.returns-in_err-slot-clause-cause
+returns-in_err-slot-clause-cause g c =
+    let fault = err_from_is_err_and c.from_residual-in_err-slot.result c.from_residual-in_err-slot.ensures.1 in
+    let none = c.in_err-slot.ensures.ok_part in
+    let is_corrupt : c.from_residual-in_err-slot.result ≡ Err Corrupt = fault.1 ∙ ap Err fault.2 ∙ ap Err (some_fault (c.in_err-slot.ensures.value ∙ ap (λ o. ok_or o Corrupt) none)) in
+    corrupted (g.P.Pages.pages c.args.p.now) c.args.h.now (g.P.Pages.faults c.args.p.now) (g.P.Pages.faults c.read_root.new.p) (g.P.Pages.is_sound c.read_root.new.p)
+    c.from_residual-in_err-slot.result is_corrupt (c.in_ok-page.ensures.cause.pages.quiet (λ failed. cc)) c.in_ok-page.ensures.cause.pages.later (c.in_ok-page.ensures.cause.pages.sound (λ failed. cc))
+    (no_slot (g.P.Pages.pages c.args.p.now) c.args.h.now c.in_ok-page.page c.read_head.result c.in_ok-head.head c.args.key.now c.locate.result c.in_ok-page.ensures.page c.read_head.ensures.exact c.in_ok-head.ensures.ok_part c.locate.ensures.exact none)

@@ -1,8 +1,8 @@
 use Rattle.std.proofs.Common.{Bool, sym, ap, ◌∙◌, Ok, suc, length}
 use Rattle.std.proofs.lemmas.Result.{err_from_is_err_and}
-use Rattle.uq_json.specs.Found.{ListStandsFor, SlotsStandFor}
-use Rattle.uq_json.specs.Reading.{Read, listed_within, member_at, element_at}
-use Rattle.uq_json.proofs.Gathering.{element_found, element_fails, element_no_longer, shallow_found, begins, item_fails, separator_fails, ends, shrinks, goes_on, list_found, member_no_longer, member_found, no_slots, slot_set, object_found}
+use Rattle.uq_json.specs.Internal.Found.{ListStandsFor, MembersStandFor}
+use Rattle.uq_json.specs.Internal.Reading.{Read, listed_within, member_at, element_at}
+use Rattle.uq_json.proofs.Gathering.{element_found, element_fails, element_no_longer, shallow_found, begins, item_fails, separator_fails, ends, shrinks, goes_on, list_found, member_no_longer, member_found, no_members, member_set, object_found}
 use Rattle.uq_json.proofs.reading.+element.Goals as goal
 
 pub element-returns-in_err-found : goal.element-returns-in_err-found
@@ -56,41 +56,41 @@ member-returns t c =
     c.skip_blanks.ensures c.in_ok-name.ensures c.skip_blanks-rest.ensures (sym c.next_is.ensures.next ∙ c.if-not-next_is.false) c.in_ok-value.ensures
 
 pub members-members-init : goal.members-members-init
-members-members-init t c = begins (member_at (element_at c.args.room)) 0x7d (SlotsStandFor c.new-found.result) c.args.text.now (no_slots c.new-found.result c.new-found.ensures)
+members-members-init t c = begins (member_at (element_at c.args.room)) 0x7d (MembersStandFor c.new-found.result) c.args.text.now (no_members c.new-found.result.kept c.new-found.result.left_out.items c.new-found.ensures.kept c.new-found.ensures.left_out)
 
 pub members-returns-in_err-name : goal.members-returns-in_err-name
 members-returns-in_err-name t c =
     let p = err_from_is_err_and c.from_residual.result c.from_residual.ensures.1 in
-    rw (p.1, p.2) (item_fails (member_at (element_at c.args.room)) 0x7d (SlotsStandFor c.members.found) c.members.rest.now (listed_within (member_at (element_at c.args.room)) 0x7d (suc (length c.args.text.now)) c.args.text.now) c.in_err-name.field-0.0 c.members.invariant c.in_err-name.ensures)
+    rw (p.1, p.2) (item_fails (member_at (element_at c.args.room)) 0x7d (MembersStandFor c.members.found) c.members.rest.now (listed_within (member_at (element_at c.args.room)) 0x7d (suc (length c.args.text.now)) c.args.text.now) c.in_err-name.field-0.0 c.members.invariant c.in_err-name.ensures)
 
 pub members-returns-in_err-comma : goal.members-returns-in_err-comma
 members-returns-in_err-comma t c =
     let p = err_from_is_err_and c.from_residual-in_err-comma.result c.from_residual-in_err-comma.ensures.1 in
-    rw (p.1, p.2) (separator_fails (member_at (element_at c.args.room)) 0x7d (SlotsStandFor c.members.found) c.members.rest.now (listed_within (member_at (element_at c.args.room)) 0x7d (suc (length c.args.text.now)) c.args.text.now)
+    rw (p.1, p.2) (separator_fails (member_at (element_at c.args.room)) 0x7d (MembersStandFor c.members.found) c.members.rest.now (listed_within (member_at (element_at c.args.room)) 0x7d (suc (length c.args.text.now)) c.args.text.now)
     c.in_ok-name.ensures.0 c.in_ok-name.after.now c.in_ok-name.ensures.1 c.in_err-comma.field-0.0 c.members.invariant c.in_err-comma.ensures)
 
 pub members-returns-then-not-comma : goal.members-returns-then-not-comma
 members-returns-then-not-comma t c =
-    ends (member_at (element_at c.args.room)) 0x7d (SlotsStandFor c.members.found) c.members.rest.now (listed_within (member_at (element_at c.args.room)) 0x7d (suc (length c.args.text.now)) c.args.text.now)
+    ends (member_at (element_at c.args.room)) 0x7d (MembersStandFor c.members.found) c.members.rest.now (listed_within (member_at (element_at c.args.room)) 0x7d (suc (length c.args.text.now)) c.args.text.now)
     c.in_ok-name.ensures.0 c.in_ok-name.after.now c.in_ok-name.ensures.1 c.in_ok-comma.behind.now (c.in_ok-comma.ensures ∙ ap (λ (b : Bool). let r : Read Bool = Ok (b, c.in_ok-comma.behind.now) in r) c.if-not-comma.true)
-    (SlotsStandFor c.set.new.self) (slot_set c.args.room c.members.rest.now c.in_ok-name.after.now c.in_ok-name.ensures.0 c.members.found c.set.new.self c.in_ok-name.name.items c.in_ok-name.value c.in_ok-set.field-0 c.requires
-    c.in_ok-name.ensures.1 c.in_ok-name.ensures.2 c.in_ok-name.ensures.3 c.in_ok-set.ensures.ok) c.members.invariant
+    (MembersStandFor c.set.new.self) (member_set c.args.room c.members.rest.now c.in_ok-name.after.now c.in_ok-name.ensures.0 c.members.found c.set.new.self c.in_ok-name.name.items c.in_ok-name.value c.requires
+    c.in_ok-name.ensures.1 c.in_ok-name.ensures.2 c.in_ok-name.ensures.3 c.in_ok-set.ensures) c.members.invariant
 
 pub members-members-smaller : goal.members-members-smaller
 members-members-smaller t c =
-    shrinks (member_at (element_at c.args.room)) 0x7d (SlotsStandFor c.members.found) c.members.rest.now (listed_within (member_at (element_at c.args.room)) 0x7d (suc (length c.args.text.now)) c.args.text.now)
+    shrinks (member_at (element_at c.args.room)) 0x7d (MembersStandFor c.members.found) c.members.rest.now (listed_within (member_at (element_at c.args.room)) 0x7d (suc (length c.args.text.now)) c.args.text.now)
     c.in_ok-name.ensures.0 c.in_ok-name.after.now c.in_ok-name.ensures.1 c.in_ok-comma.behind.now (c.in_ok-comma.ensures ∙ ap (λ (b : Bool). let r : Read Bool = Ok (b, c.in_ok-comma.behind.now) in r) c.if-not-comma.false)
     (member_no_longer c.args.room c.members.rest.now c.in_ok-name.after.now c.in_ok-name.ensures.0 c.in_ok-name.ensures.1)
 
 pub members-members-preserved : goal.members-members-preserved
 members-members-preserved t c =
-    goes_on (member_at (element_at c.args.room)) 0x7d (SlotsStandFor c.members.found) c.members.rest.now (listed_within (member_at (element_at c.args.room)) 0x7d (suc (length c.args.text.now)) c.args.text.now)
+    goes_on (member_at (element_at c.args.room)) 0x7d (MembersStandFor c.members.found) c.members.rest.now (listed_within (member_at (element_at c.args.room)) 0x7d (suc (length c.args.text.now)) c.args.text.now)
     c.in_ok-name.ensures.0 c.in_ok-name.after.now c.in_ok-name.ensures.1 c.in_ok-comma.behind.now (c.in_ok-comma.ensures ∙ ap (λ (b : Bool). let r : Read Bool = Ok (b, c.in_ok-comma.behind.now) in r) c.if-not-comma.false)
     (member_no_longer c.args.room c.members.rest.now c.in_ok-name.after.now c.in_ok-name.ensures.0 c.in_ok-name.ensures.1)
-    (SlotsStandFor c.set.new.self) (slot_set c.args.room c.members.rest.now c.in_ok-name.after.now c.in_ok-name.ensures.0 c.members.found c.set.new.self c.in_ok-name.name.items c.in_ok-name.value c.in_ok-set.field-0 c.requires
-    c.in_ok-name.ensures.1 c.in_ok-name.ensures.2 c.in_ok-name.ensures.3 c.in_ok-set.ensures.ok) c.members.invariant
+    (MembersStandFor c.set.new.self) (member_set c.args.room c.members.rest.now c.in_ok-name.after.now c.in_ok-name.ensures.0 c.members.found c.set.new.self c.in_ok-name.name.items c.in_ok-name.value c.requires
+    c.in_ok-name.ensures.1 c.in_ok-name.ensures.2 c.in_ok-name.ensures.3 c.in_ok-set.ensures) c.members.invariant
 
 pub object-returns : goal.object-returns
 object-returns t c =
-    object_found c.args.room c.args.text.now c.skip_blanks-inner.result.now c.in_ok-members.rest.now c.in_ok-members.members c.in_ok-whole_object.field-0 c.requires c.skip_blanks-inner.ensures (sym c.next_is.ensures.next ∙ c.if-next_is.false)
-    c.in_ok-whole_object.ensures.ok c.in_ok-members.ensures
+    object_found c.args.room c.args.text.now c.skip_blanks-inner.result.now c.in_ok-members.rest.now c.in_ok-members.members c.in_ok-finish.field-0 c.requires c.skip_blanks-inner.ensures (sym c.next_is.ensures.next ∙ c.if-next_is.false)
+    c.in_ok-finish.ensures.ok c.in_ok-members.ensures

@@ -1,6 +1,6 @@
 use Rattle.std.proofs.Common.{◌+◌, ◌*◌, length, suc}
-use Rattle.uq_json.specs.Found.{ListStandsFor, SlotsStandFor}
-use Rattle.uq_json.specs.Reading.{listed_within, member_at, element_at}
+use Rattle.uq_json.specs.Internal.Found.{ListStandsFor, MembersStandFor}
+use Rattle.uq_json.specs.Internal.Reading.{listed_within, member_at, element_at}
 use Rattle.uq_json.proofs.Gathering.{SoFar}
 use Rattle.uq_json.proofs.reading.+element.Given as goal
 
@@ -35,4 +35,4 @@ abbrev pub decreases-members-members : goal.decreases-members-members
 decreases-members-members l = length l.rest
 
 abbrev pub invariant-members-members : goal.invariant-members-members
-invariant-members-members l = SoFar (member_at (element_at l.room)) 0x7d (SlotsStandFor l.found) l.rest (listed_within (member_at (element_at l.room)) 0x7d (suc (length l.text)) l.text)
+invariant-members-members l = SoFar (member_at (element_at l.room)) 0x7d (MembersStandFor l.found) l.rest (listed_within (member_at (element_at l.room)) 0x7d (suc (length l.text)) l.text)

@@ -16,7 +16,7 @@ returns-then-not-is_empty c =
 
 pub returns-in-Some : goal.returns-in-Some
 returns-in-Some c =
-    value_answer c.args.text.now c.in_ok-found.rest.now c.in_ok-found.found c.in-Some.value c.in_ok-found.ensures (eqb-true _ 0 (sym c.is_empty.ensures ∙ c.if-not-is_empty.false)) c.in-Some.is c.within_limits.ensures.small
+    value_answer c.args.text.now c.in_ok-found.rest.now c.in_ok-found.found c.in-Some.value c.in_ok-found.ensures (eqb-true _ 0 (sym c.is_empty.ensures ∙ c.if-not-is_empty.false)) c.in-Some.is c.is_value.ensures.small
 
 pub returns-in-None : goal.returns-in-None
 returns-in-None c =

@@ -5,7 +5,7 @@ use Rattle.uq_value.specs.Depth.{most_depth}
 use Rattle.uq_value.specs.Plain.{depth}
 use Rattle.uq_value.specs.declared.error.ValueFault.TheVariants as value
 use Rattle.uq_value.specs.declared.value.Value.{Value}
-use Rattle.uq_json.specs.Found.{ListStandsFor, StandsFor}
+use Rattle.uq_json.specs.Internal.Found.{ListStandsFor, StandsFor}
 use Rattle.uq_json.proofs.Steps.{if_ok_weaker}
 use Rattle.uq_json.proofs.Gathering.{nothing_kept, item_refused}
 use Rattle.uq_json.proofs.reading.with_item.Goals as goal

@@ -1,5 +1,5 @@
 use Rattle.std.proofs.Common.{◌≡◌, ◌≤◌, ◌-◌, length, drop}
-use Rattle.uq_json.specs.Reading.{skip_blanks}
+use Rattle.uq_json.specs.Internal.Reading.{skip_blanks}
 use Rattle.uq_json.proofs.scanning.skip_blanks.Given as goal
 
 abbrev pub decreases-loop-count : goal.decreases-loop-count

@@ -1,5 +1,5 @@
 use Rattle.std.proofs.Common.{◌≡◌, ◌≤◌, ◌-◌, ◌++◌, length, take, drop}
-use Rattle.uq_json.specs.Reading.{digits_of, behind_digits}
+use Rattle.uq_json.specs.Internal.Reading.{digits_of, behind_digits}
 use Rattle.uq_json.proofs.scanning.split_digits.Given as goal
 
 abbrev pub decreases-loop-count : goal.decreases-loop-count

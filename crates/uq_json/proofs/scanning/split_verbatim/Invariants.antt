@@ -1,5 +1,5 @@
 use Rattle.std.proofs.Common.{◌≡◌, ◌≤◌, ◌-◌, ◌++◌, length, take, drop}
-use Rattle.uq_json.specs.Reading.{verbatim_of, behind_verbatim}
+use Rattle.uq_json.specs.Internal.Reading.{verbatim_of, behind_verbatim}
 use Rattle.uq_json.proofs.scanning.split_verbatim.Given as goal
 
 abbrev pub decreases-loop-count : goal.decreases-loop-count

@@ -1,7 +1,7 @@
 use Rattle.std.proofs.Common.{sym, ◌∙◌}
 use Rattle.std.proofs.lemmas.Result.{err_from_is_err_and}
-use Rattle.uq_json.specs.Reading.{inside_at}
-use Rattle.uq_json.specs.Decoding.{piece}
+use Rattle.uq_json.specs.Internal.Reading.{inside_at}
+use Rattle.uq_json.specs.Internal.Decoding.{piece}
 use Rattle.uq_json.proofs.Decoding.{piece_shrinks, pieces_go_on, pieces_fail, pieces_end}
 use Rattle.uq_json.proofs.Verbatim.{verbatim_goes_on, shorter_behind}
 use Rattle.uq_json.proofs.unquoting.inside.Goals as goal

@@ -1,6 +1,6 @@
 use Rattle.std.proofs.Common.{◌≡◌, ℕ, ◌≤◌, length}
-use Rattle.uq_json.specs.Decoding.{decoded}
-use Rattle.uq_json.specs.Reading.{pieces_within, inside_at}
+use Rattle.uq_json.specs.Internal.Decoding.{decoded}
+use Rattle.uq_json.specs.Internal.Reading.{pieces_within, inside_at}
 use Rattle.uq_json.proofs.unquoting.inside.Given as goal
 
 abbrev pub decreases-pieces : goal.decreases-pieces

@@ -8,8 +8,8 @@ returns-then-steps-depth-clause-refused c =
 
 pub returns-clause-ok : goal.returns-clause-ok
 returns-clause-ok c =
-    put_ok c.args.steps.now c.args.new c.args.root.now (omega (arith, c.if-steps-depth.false, c.depth.ensures.depth, c.depth.ensures.fits)) c.within_limits.ensures.shallow c.write.result c.write.new.v c.write.ensures.ok
+    put_ok c.args.steps.now c.args.new c.args.root.now (omega (arith, c.if-steps-depth.false, c.depth.ensures.depth, c.depth.ensures.fits)) c.is_value.ensures.shallow c.write.result c.write.new.v c.write.ensures.ok
 
 pub returns-clause-refused : goal.returns-clause-refused
 returns-clause-refused c =
-    put_refused c.args.steps.now c.args.new c.args.root.now (omega (arith, c.if-steps-depth.false, c.depth.ensures.depth, c.depth.ensures.fits)) c.within_limits.ensures.shallow c.write.result c.write.ensures.refused
+    put_refused c.args.steps.now c.args.new c.args.root.now (omega (arith, c.if-steps-depth.false, c.depth.ensures.depth, c.depth.ensures.fits)) c.is_value.ensures.shallow c.write.result c.write.ensures.refused

@@ -9,8 +9,8 @@ returns-then-depth-ge-MOST_DEPTH-clause-refused c =
 
 pub returns-clause-ok : goal.returns-clause-ok
 returns-clause-ok c =
-    put_ok (Member c.args.name.now ∷ []) c.args.new c.args.v.now (omega (arith, c.if-depth-ge-MOST_DEPTH.false, c.depth.ensures.depth)) c.within_limits.ensures.shallow c.write_member.result c.write_member.new.v c.write_member.ensures.ok
+    put_ok (Member c.args.name.now ∷ []) c.args.new c.args.v.now (omega (arith, c.if-depth-ge-MOST_DEPTH.false, c.depth.ensures.depth)) c.is_value.ensures.shallow c.write_member.result c.write_member.new.v c.write_member.ensures.ok
 
 pub returns-clause-refused : goal.returns-clause-refused
 returns-clause-refused c =
-    put_refused (Member c.args.name.now ∷ []) c.args.new c.args.v.now (omega (arith, c.if-depth-ge-MOST_DEPTH.false, c.depth.ensures.depth)) c.within_limits.ensures.shallow c.write_member.result c.write_member.ensures.refused
+    put_refused (Member c.args.name.now ∷ []) c.args.new c.args.v.now (omega (arith, c.if-depth-ge-MOST_DEPTH.false, c.depth.ensures.depth)) c.is_value.ensures.shallow c.write_member.result c.write_member.ensures.refused

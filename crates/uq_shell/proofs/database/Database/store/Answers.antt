@@ -1,5 +1,6 @@
 use Rattle.std.proofs.Common.{◌≡◌, Err, ap, sym, refl, subst, ◌∙◌, arith}
 use Rattle.std.proofs.lemmas.Bool.{leb-true}
+use Rattle.uq_page.specs.declared.layout.TheConstants.{CELLS_ROOM}
 use Rattle.uq_hash.specs.Map.{WhereHeld}
 use Rattle.uq_shell.specs.declared.fault.StoreFault.TheVariants.{Corrupt}
 use Rattle.uq_shell.proofs.Files.{on_ok, on_ok_map}
@@ -8,7 +9,7 @@ use Rattle.uq_shell.proofs.database.Database.store.Goals as goal
 
 pub put-requires-clause-room : goal.put-requires-clause-room
 put-requires-clause-room c pages is m holds =
-    leb-true _ 4080 (sym (c.in-Ok-true.ensures.fits pages (sym (c.in-Ok-true.ensures.same (λ failed. cc)) ∙ is) m holds) ∙ c.in-Ok-true.field-0-test)
+    leb-true _ CELLS_ROOM (sym (c.in-Ok-true.ensures.fits pages (sym (c.in-Ok-true.ensures.same (λ failed. cc)) ∙ is) m holds) ∙ c.in-Ok-true.field-0-test)
 
 pub returns-in-Ok-true-clause-fits : goal.returns-in-Ok-true-clause-fits
 returns-in-Ok-true-clause-fits c = on_ok c.put.result _ (λ store keeps.

@@ -1,13 +1,17 @@
-use Rattle.std.proofs.Common.{ap, option_map}
-use Rattle.uq_value.proofs.Levels.{find-plain}
+use Rattle.std.proofs.Common.{ap, sym, ◌∙◌, subst, length, ◌≡◌}
+use Rattle.uq_value.specs.Internal.Index.{IsFound}
+use Rattle.uq_value.specs.Internal.Names.{names}
+use Rattle.uq_value.specs.Places.{place_of}
+use Rattle.uq_value.specs.Reading.{find_member}
+use Rattle.uq_value.proofs.ByName.{member-found, member-missing}
 use Rattle.uq_value.proofs.object.Object.find.Goals as goal
 
-pub returns-in-Some : goal.returns-in-Some
-returns-in-Some c =
-    rw (← c.self.view_is, find-plain c.args.name.now c.self.inside.members.items, ← c.as_slice.ensures.value)
-    (ap (λ o. option_map (λ m. m.value) o) (c.in-Some.ensures))
+pub returns-in-Ok : goal.returns-in-Ok
+returns-in-Ok c =
+    sym (ap (λ ms. find_member c.args.name.now ms) (sym c.self.view_is)
+    ∙ member-found c.self.inside.members.items c.args.name.now c.in-Ok.at c.index.result.now (subst (λ ms. IsFound (names ms) c.args.name.now c.in-Ok.at) c.as_slice.ensures.value c.in-Ok.ensures.found) c.index.ensures)
 
-pub returns-in-None : goal.returns-in-None
-returns-in-None c =
-    rw (← c.self.view_is, find-plain c.args.name.now c.self.inside.members.items, ← c.as_slice.ensures.value)
-    (ap (λ o. option_map (λ m. m.value) o) (c.in-None.ensures))
+pub returns-in-Err : goal.returns-in-Err
+returns-in-Err c =
+    sym (ap (λ ms. find_member c.args.name.now ms) (sym c.self.view_is)
+    ∙ member-missing c.self.inside.members.items c.args.name.now (subst (λ ms. place_of c.args.name.now (names ms) ≡ length (names ms)) c.as_slice.ensures.value c.in-Err.ensures.lacks.0))

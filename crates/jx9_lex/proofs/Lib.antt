@@ -1,0 +1,4 @@
+pub mod Naturals
+pub mod PartLemmas
+pub mod Reading
+pub mod LexLemmas

@@ -1,0 +1,9 @@
+use Rattle.std.proofs.Common.{◌≡◌, length}
+use Rattle.jx9_syntax.specs.Tokens.{behind_comment}
+use Rattle.jx9_lex.proofs.cutting.behind_comment.Given as goal
+
+abbrev pub decreases-loop-rest : goal.decreases-loop-rest
+decreases-loop-rest l = length l.rest
+
+abbrev pub invariant-loop-rest : goal.invariant-loop-rest
+invariant-loop-rest l = behind_comment l.rest ≡ behind_comment l.text

@@ -1,0 +1,19 @@
+//! The tokens of a script, cut off its front one after the other.
+#![tactic(auto)]
+
+mod builder;
+mod class;
+mod cutting;
+mod error;
+mod lexer;
+mod numbers;
+mod piece;
+mod quoted;
+mod signs;
+mod stop;
+#[cfg(test)]
+mod tests;
+mod text;
+
+pub use error::LexFault;
+pub use lexer::lex;

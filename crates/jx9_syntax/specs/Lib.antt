@@ -1,0 +1,11 @@
+pub mod Bytes
+pub mod Signs
+pub mod Quoted
+pub mod Tokens
+pub mod Front
+pub mod Trees
+pub mod Nesting
+pub mod Words
+pub mod Making
+pub mod Grammar
+pub mod Program

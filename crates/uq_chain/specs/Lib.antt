@@ -1,0 +1,10 @@
+pub mod CauseLaws
+pub mod Causes
+pub mod Chain
+pub mod ChainLaws
+pub mod FreeList
+pub mod Grown
+pub mod GrownLaws
+pub mod Path
+pub mod PathLaws
+pub mod TurnLaws

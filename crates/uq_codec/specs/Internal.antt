@@ -1,0 +1,4 @@
+-- What the private parts of the crate cite. Crates above name nothing of it.
+pub mod Kinds
+pub mod Reading
+pub mod Writing

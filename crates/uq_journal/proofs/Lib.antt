@@ -1,0 +1,14 @@
+mod Results
+mod Still
+mod Behind
+mod Gates
+mod Staged
+mod Recovery
+mod BatchesAt
+mod Pages
+mod Phases
+mod Putting
+mod Cutting
+mod Undoing
+mod Emptying
+mod MainKept

@@ -1,0 +1,11 @@
+pub mod Batches
+pub mod Calls
+pub mod Journals
+pub mod Laws
+pub mod Opening
+pub mod Pages
+pub mod PagesLaws
+pub mod PutBack
+pub mod Recovered
+pub mod Recovery
+pub mod Steps

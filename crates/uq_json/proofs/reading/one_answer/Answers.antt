@@ -1,5 +1,0 @@
-use Rattle.uq_json.proofs.Verdicts.{only_answer}
-use Rattle.uq_json.proofs.reading.one_answer.Goals as goal
-
-pub returns : goal.returns
-returns c = only_answer

@@ -1,0 +1,6 @@
+-- What the private parts of the crate cite. Crates above name nothing of it.
+pub mod Reading
+pub mod Decoding
+pub mod Printing
+pub mod LeftOut
+pub mod Found

@@ -1,0 +1,8 @@
+mod Cleaning
+mod Committing
+mod Fetching
+mod Holding
+mod Openings
+mod Reading
+mod Sorting
+mod Writing

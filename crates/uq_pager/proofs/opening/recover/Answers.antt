@@ -1,0 +1,20 @@
+use Rattle.uq_pager.proofs.Openings.{main_still, recovers_to, recovers_to_none, rests_at}
+use Rattle.uq_pager.proofs.opening.recover.Goals as goal
+
+pub returns-in-Some-whole_pages-clause-ready : goal.returns-in-Some-whole_pages-clause-ready
+returns-in-Some-whole_pages-clause-ready g c =
+    rests_at g.D.Disk c.args.disk.now c.open.new.disk c.length.new.self c.in-Ok-length.ensures.same c.in-Some-whole_pages.saved c.in-Ok-length.len
+    c.in-Ok-length.ensures.stop c.in-Ok-open.ensures.rest c.in-Ok-length.ensures.told c.in-Some-whole_pages.ensures
+
+pub returns-in-Some-whole_pages-clause-main : goal.returns-in-Some-whole_pages-clause-main
+returns-in-Some-whole_pages-clause-main g c = main_still g.D.Disk c.args.disk.now c.open.new.disk c.length.new.self c.in-Ok-length.ensures.same c.in-Ok-open.ensures.main
+
+pub returns-in-Some-whole_pages-clause-pages : goal.returns-in-Some-whole_pages-clause-pages
+returns-in-Some-whole_pages-clause-pages g c =
+    recovers_to g.D.Disk c.args.disk.now c.open.new.disk c.length.new.self c.in-Ok-length.ensures.same c.in-Some-whole_pages.saved c.in-Ok-length.len
+    c.in-Ok-open.ensures.alike c.in-Ok-open.ensures.main c.in-Ok-length.ensures.told c.in-Some-whole_pages.ensures
+
+pub returns-in-None-clause-not_database : goal.returns-in-None-clause-not_database
+returns-in-None-clause-not_database g c = λ _.
+    recovers_to_none g.D.Disk c.args.disk.now c.open.new.disk c.length.new.self c.in-Ok-length.ensures.same c.in-Ok-length.len
+    c.in-Ok-open.ensures.alike c.in-Ok-open.ensures.main c.in-Ok-length.ensures.told c.in-None.ensures

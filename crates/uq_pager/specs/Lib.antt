@@ -1,0 +1,14 @@
+pub mod Batch
+pub mod BatchLaws
+pub mod Changes
+pub mod ChangesLaws
+pub mod Clean
+pub mod Keeps
+pub mod KeepsLaws
+pub mod Lists
+pub mod Opening
+pub mod Paged
+pub mod Pager
+pub mod PagerLaws
+pub mod Places
+pub mod PlacesLaws
