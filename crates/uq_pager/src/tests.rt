@@ -113,9 +113,7 @@ fn change(alloc: Global, disk: &mut MemDisk, commits: bool) -> bool {
     if pager.count() != 2 {
         return false;
     }
-    let Ok(()) = pager.begin() else {
-        return false;
-    };
+    pager.begin();
     let Ok(()) = pager.write_page(0, &page(4)) else {
         return false;
     };

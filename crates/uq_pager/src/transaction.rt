@@ -13,9 +13,8 @@ impl<'d, D: Disk> Pager<'d, D> {
     ghost use Rattle.uq_pager.specs.Pager.{HoldsTheSame, IsSound, KeepsPager, cache_of, paged};
 
     /// Begins a transaction, where none is begun.
-    pub fn begin(&mut self) -> Result<(), PagerFault>
+    pub fn begin(&mut self)
         requires sound { IsSound D.Disk self.old }
-        ensures ok { IsOk result }
         ensures told { paged D.Disk self.new ≡ option_map begun (paged D.Disk self.old) }
         ensures begun { self.new.is_begun ≡ true }
         ensures sound { IsSound D.Disk self.new }
@@ -26,7 +25,6 @@ impl<'d, D: Disk> Pager<'d, D> {
         ensures held { HoldsTheSame D.Disk self.old self.new }
     {
         self.is_begun = true;
-        Ok(())
     }
 
     /// Makes the present pages the committed ones, all or none of them at whatever moment it is stopped. Answers
