@@ -1,20 +1,19 @@
 -- `put` from a write with room for the greatest value.
-use Rattle.std.proofs.Common.{◌≡◌, ◌≤◌, ◌<◌, ◌+◌, refl, sym, ap, ◌∙◌, arith, subst, length, if◌then◌else◌, List, [], ◌∷◌, Option, Some, None, unwrap_or, Result, Ok, Err, OnOk, IfErr, MatchOption}
+use Rattle.std.proofs.Common.{◌≡◌, ◌≤◌, ◌<◌, ◌+◌, refl, sym, ap, ◌∙◌, arith, subst, length, if◌then◌else◌, List, [], Option, Some, None, unwrap_or, Result, Ok, Err, OnOk, IfErr, MatchOption}
 use Rattle.std.proofs.lemmas.Result.{on_ok_weaker, IfErr-weaker}
 use Rattle.uq_value.specs.Size.{most_size}
 use Rattle.uq_value.specs.Depth.{most_depth}
 use Rattle.uq_value.specs.Plain.{depth}
-use Rattle.uq_value.specs.Put.{Put, then_put, put_within, limited, put, key}
-use Rattle.uq_value.specs.Internal.Writing.{fits, put_in}
-use Rattle.uq_value.specs.Internal.Reaching.{Leads, Refused, reached}
+use Rattle.uq_value.specs.Put.{Put, Key, then_put, with_child, put_within, limited, put}
+use Rattle.uq_value.specs.Internal.Writing.{fits, put_in, put_at}
+use Rattle.uq_value.specs.Internal.Reaching.{Leads, Refused}
 use Rattle.uq_value.specs.Faults.{Refuses}
 use Rattle.uq_value.specs.declared.value.Value.{Value}
 use Rattle.uq_value.specs.declared.step.Step.{Step}
 use Rattle.uq_value.specs.declared.error.ValueFault.{ValueFault}
 use Rattle.uq_value.specs.declared.error.ValueFault.TheVariants.{NotContainer, IndexRange, TooDeep, TooLarge, Memory}
 use Rattle.uq_value.proofs.Limits.{not_above, too_deep}
-use Rattle.uq_value.proofs.Deeper.{Between, put_within-depth}
-use Rattle.uq_value.proofs.Steps.{leads}
+use Rattle.uq_value.proofs.Deeper.{Between, child-deepens, put_within-depth}
 
 module _ (steps : List Step) (new v : Value) where
   shallow_enough : length steps + depth new ≤ most_depth → depth v ≤ most_depth → (r : Put Value) → put_within steps new v ≡ r → then_put r limited ≡ then_put r (fits most_size)
@@ -58,8 +57,19 @@ module _ (steps : List Step) (new v : Value) where
 
 -- ---- one step
 
-pub one_step : (s : Step) (v : Value) (o : Option Value) → reached s v ≡ Ok o → Leads (s ∷ []) v
-one_step s v o e = λ new. leads [] new v o (key s v) e new refl
+module _ (k : Key) (new v : Value) where
+  whole : Between (depth v) (1 + depth new) (depth (with_child k new v))
+  whole = child-deepens k new v
 
-pub step_too_deep : (s : Step) (new v : Value) (o : Option Value) → most_depth ≤ depth new → reached s v ≡ Ok o → put v (s ∷ []) new ≡ Err TooDeep
-step_too_deep s new v o h e = deep (s ∷ []) new v (omega (arith, h)) (one_step s v o e)
+  pub child_too_deep : most_depth ≤ depth new → limited (with_child k new v) ≡ Err TooDeep
+  child_too_deep h = too_deep (with_child k new v) (omega (arith, h, whole.least))
+
+  module _ (h : depth new < most_depth) (d : depth v ≤ most_depth) where
+    child_roomy : limited (with_child k new v) ≡ put_at most_size k [] new v
+    child_roomy = ap (λ b. if b then Err TooDeep else fits most_size (with_child k new v)) (not_above most_depth (depth (with_child k new v)) (omega (arith, h, d, whole.most)))
+
+    pub child_ok : (r : Result (Unit {0}) ValueFault) (w : Value) → OnOk r (put_at most_size k [] new v ≡ Ok w) → OnOk r (limited (with_child k new v) ≡ Ok w)
+    child_ok r w o = on_ok_weaker r (λ p. child_roomy ∙ p) o
+
+    pub child_refused : (r : Result (Unit {0}) ValueFault) → IfErr r (Refuses (put_at most_size k [] new v)) → IfErr r (Refuses (limited (with_child k new v)))
+    child_refused r o = subst (λ x. IfErr r (Refuses x)) (sym child_roomy) o

@@ -7,6 +7,7 @@ mod copying;
 mod depth_counts;
 mod error;
 mod kept;
+mod key;
 mod laws;
 mod list;
 mod measuring;

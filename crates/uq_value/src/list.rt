@@ -1,19 +1,16 @@
 //! Lists, and writes within them.
-ghost use Rattle.std.specs.Prelude.{◌≡◌, ◌≤◌, ◌<◌, ◌+◌, [], ◌∷◌, ◌++◌, ◌-◌, ◌^◌, min, map, length, slice_get, option_copied, IfOk, IfErr, OnOk, OnErr, Ok, Err, MatchResult};
+ghost use Rattle.std.specs.Prelude.{◌≡◌, ◌≤◌, ◌<◌, ◌+◌, [], ◌∷◌, ◌++◌, ◌-◌, ◌^◌, min, map, length, slice_get, option_copied, IfOk, IfErr, OnOk, OnErr, Ok};
 ghost use Rattle.uq_value.specs.Data.{list, items_of};
 ghost use Rattle.uq_value.specs.Faults.{Refuses};
 ghost use Rattle.uq_value.specs.Put.{limited, nth};
-ghost use Rattle.uq_value.specs.Internal.Reaching.{reached};
-ghost use Rattle.uq_value.specs.Internal.Writing.{put_in, put_at, PushFits, size_beside_next};
+ghost use Rattle.uq_value.specs.Internal.Writing.{put_at, PushFits, size_beside_next};
 ghost use Rattle.uq_value.specs.declared.value.Value.{Value};
-ghost use Rattle.uq_value.specs.declared.step.Step.TheVariants.{Index};
 ghost use Rattle.uq_value.specs.Size.{data_size, most_size};
 ghost use Rattle.uq_value.specs.Depth.{data_depth, most_depth};
 ghost use Rattle.uq_value.specs.IsValue.{IsValue, ItemsAreSound};
 ghost use Rattle.uq_value.specs.Plain.{items as spec_items, plain, depth as spec_depth};
 ghost use Rattle.uq_value.specs.Truth.{is_empty as spec_is_empty};
 ghost use Rattle.uq_value.specs.Same.{data_same};
-ghost use Rattle.uq_value.specs.Reading.{item_at as spec_item_at};
 
 use crate::comparing::alike;
 use crate::copying::copy;
@@ -85,15 +82,6 @@ impl List {
         ensures { option_copied result ≡ slice_get (spec_items self.now) at }
     {
         sqlite_items::at(self.items.as_slice(), at)
-    }
-
-    pub(crate) fn item_at(&self, at: i64) -> Option<&Value>
-        ensures { option_copied result ≡ spec_item_at self.now at }
-    {
-        if at < 0 {
-            return None;
-        }
-        self.item(at as usize)
     }
 
     /// Whether the two have the same items in the same order.
@@ -195,39 +183,27 @@ impl List {
         self.kept.size() - leb_size(count) + leb_size(count + 1)
     }
 
-    /// The item at an index, none at the length.
-    pub(crate) fn reach(&self, at: i64) -> Result<Option<&Value>, ValueFault>
-        ensures { MatchResult result (λ o. reached (Index (Value.Int at)) (Value.List self.now) ≡ Ok (option_copied o)) (λ e. reached (Index (Value.Int at)) (Value.List self.now) ≡ Err e) }
-    {
-        if at < 0 || at as usize > self.items.len() {
-            return Err(ValueFault::IndexRange);
-        }
-        Ok(self.item(at as usize))
-    }
-
-    /// Writes from the item at an index on, or appends at the length.
+    /// Writes from the item at a place on, or appends where none is there.
     #[cycle(write)]
-    pub(crate) fn write_index(
+    pub(crate) fn write_nth(
         &mut self,
         alloc: Global,
-        at: i64,
+        at: usize,
         rest: &[Step],
         new: Value,
         room: u64,
     ) -> Result<(), ValueFault>
         requires shallow { length rest.now + spec_depth new < most_depth }
         requires small { room ≤ most_size }
-        ensures ok { OnOk result (put_in room (Index (Value.Int at) ∷ rest.now) new (Value.List self.old) ≡ Ok (Value.List self.new)) }
-        ensures refused { IfErr result (Refuses (put_in room (Index (Value.Int at) ∷ rest.now) new (Value.List self.old))) }
+        ensures ok { OnOk result (put_at room (nth at) rest.now new (Value.List self.old) ≡ Ok (Value.List self.new)) }
+        ensures refused { IfErr result (Refuses (put_at room (nth at) rest.now new (Value.List self.old))) }
         ensures unchanged { OnErr result (self.new ≡ self.old) }
     {
-        if at < 0 || at as usize > self.len() {
-            return Err(ValueFault::IndexRange);
+        if at < self.len() {
+            self.write_at(alloc, at, rest, new, room)
+        } else {
+            self.append(alloc, rest, new, room)
         }
-        if at as usize == self.len() {
-            return self.append(alloc, rest, new, room);
-        }
-        self.write_at(alloc, at as usize, rest, new, room)
     }
 
     /// Writes from an item that is there on.

@@ -2,6 +2,7 @@
 ghost use Rattle.std.specs.Prelude.{◌≡◌, option_copied};
 ghost use Rattle.uq_value.specs.Reading.{get_member as spec_get_member, get_index as spec_get_index};
 
+use crate::key::Key;
 use crate::value::Value;
 use itoa::Buffer;
 
@@ -19,16 +20,7 @@ pub fn get_member<'v>(v: &'v Value, name: &[u8]) -> Option<&'v Value>
 pub fn get_index<'v>(v: &'v Value, at: &Value) -> Option<&'v Value>
     ensures { option_copied result ≡ spec_get_index v.now at.now }
 {
-    match v {
-        Value::List(l) => match at {
-            Value::Int(z) => l.item_at(*z),
-            _ => None,
-        },
-        Value::Object(o) => match at {
-            Value::Text(t) => o.find(t.bytes()),
-            Value::Int(z) => o.find(Buffer::new().format(*z).as_bytes()),
-            _ => None,
-        },
-        _ => None,
-    }
+    let mut decimal = Buffer::new();
+    let key = Key::of_index(v, at, &mut decimal).ok()?;
+    key.there(v)
 }

@@ -5,16 +5,18 @@ ghost use Rattle.std.specs.Prelude.{◌≡◌, ◌≤◌, ◌<◌, ◌+◌, [], 
 ghost use Rattle.uq_value.specs.Size.{most_size};
 ghost use Rattle.uq_value.specs.Depth.{most_depth};
 ghost use Rattle.uq_value.specs.Plain.{depth as spec_depth};
-ghost use Rattle.uq_value.specs.Put.{put as spec_put};
+ghost use Rattle.uq_value.specs.Put.{put as spec_put, limited, with_child};
 ghost use Rattle.uq_value.specs.Faults.{Refuses};
-ghost use Rattle.uq_value.specs.Internal.Writing.{put_in};
-ghost use Rattle.uq_value.specs.declared.step.Step.TheVariants.{Member, Index, Append};
+ghost use Rattle.uq_value.specs.Internal.Reaching.{key_of};
+ghost use Rattle.uq_value.specs.Internal.Writing.{put_in, put_at};
+ghost use Rattle.uq_value.specs.declared.step.Step.TheVariants.{Member, Index};
 
 use crate::error::ValueFault;
+use crate::key::Key;
 use crate::list::List;
 use crate::measuring::{MOST_DEPTH, MOST_SIZE, depth, is_value, size};
 use crate::object::Object;
-use crate::reaching::{first_fault, reach_index, reach_member};
+use crate::reaching::first_fault;
 use crate::step::Step;
 use crate::value::Value;
 use itoa::Buffer;
@@ -43,12 +45,8 @@ pub fn put_member(alloc: Global, v: &mut Value, name: &[u8], new: Value) -> Resu
     ensures refused { IfErr result (Refuses (spec_put v.old (Member name.now ∷ []) new)) }
     ensures unchanged { OnErr result (v.new ≡ v.old) }
 {
-    is_value(v);
-    if depth(&new) >= MOST_DEPTH {
-        reach_member(v, name)?;
-        return Err(ValueFault::TooDeep);
-    }
-    write_member(alloc, v, name, &[], new, MOST_SIZE)
+    let key = Key::of_member(v, name)?;
+    put_child(alloc, v, key, new)
 }
 
 /// `put` with one step, to what this index stands for.
@@ -57,12 +55,22 @@ pub fn put_index(alloc: Global, v: &mut Value, at: &Value, new: Value) -> Result
     ensures refused { IfErr result (Refuses (spec_put v.old (Index at.now ∷ []) new)) }
     ensures unchanged { OnErr result (v.new ≡ v.old) }
 {
+    let mut decimal = Buffer::new();
+    let key = Key::of_index(v, at, &mut decimal)?;
+    put_child(alloc, v, key, new)
+}
+
+/// Puts a value where a step leads.
+fn put_child(alloc: Global, v: &mut Value, key: Key, new: Value) -> Result<(), ValueFault>
+    ensures ok { OnOk result (limited (with_child (key_of key.entry) new v.old) ≡ Ok v.new) }
+    ensures refused { IfErr result (Refuses (limited (with_child (key_of key.entry) new v.old))) }
+    ensures unchanged { OnErr result (v.new ≡ v.old) }
+{
     is_value(v);
     if depth(&new) >= MOST_DEPTH {
-        reach_index(v, at)?;
         return Err(ValueFault::TooDeep);
     }
-    write_index(alloc, v, at, &[], new, MOST_SIZE)
+    write_child(alloc, v, key, &[], new, MOST_SIZE)
 }
 
 /// Puts a value at the end of these steps, where the whole may have `room` bytes and is not too deep.
@@ -82,11 +90,11 @@ pub(crate) fn write(
 {
     match steps.split_first() {
         None => replace(v, new, room),
-        Some((step, rest)) => match step {
-            Step::Member(name) => write_member(alloc, v, name.bytes(), rest, new, room),
-            Step::Index(at) => write_index(alloc, v, at, rest, new, room),
-            Step::Append => write_append(alloc, v, rest, new, room),
-        },
+        Some((step, rest)) => {
+            let mut decimal = Buffer::new();
+            let key = Key::of_step(v, step, &mut decimal)?;
+            write_child(alloc, v, key, rest, new, room)
+        }
     }
 }
 
@@ -102,97 +110,40 @@ fn replace(v: &mut Value, new: Value, room: u64) -> Result<(), ValueFault>
     Ok(())
 }
 
+/// Writes from what stands at a key on. What is no list or object becomes the one that the key asks for.
 #[cycle(write)]
-fn write_member(
+fn write_child(
     alloc: Global,
     v: &mut Value,
-    name: &[u8],
+    key: Key,
     rest: &[Step],
     new: Value,
     room: u64,
 ) -> Result<(), ValueFault>
     requires shallow { length rest.now + spec_depth new < most_depth }
     requires small { room ≤ most_size }
-    ensures ok { OnOk result (put_in room (Member name.now ∷ rest.now) new v.old ≡ Ok v.new) }
-    ensures refused { IfErr result (Refuses (put_in room (Member name.now ∷ rest.now) new v.old)) }
+    ensures ok { OnOk result (put_at room (key_of key.entry) rest.now new v.old ≡ Ok v.new) }
+    ensures refused { IfErr result (Refuses (put_at room (key_of key.entry) rest.now new v.old)) }
     ensures unchanged { OnErr result (v.new ≡ v.old) }
 {
-    match v {
-        Value::Null => {
-            let mut o = Object::new(alloc);
-            o.write_member(alloc, name, rest, new, room)?;
-            *v = Value::Object(o);
-            Ok(())
-        }
-        Value::Object(o) => o.write_member(alloc, name, rest, new, room),
-        _ => Err(ValueFault::NotContainer),
-    }
-}
-
-#[cycle(write)]
-fn write_index(
-    alloc: Global,
-    v: &mut Value,
-    at: &Value,
-    rest: &[Step],
-    new: Value,
-    room: u64,
-) -> Result<(), ValueFault>
-    requires shallow { length rest.now + spec_depth new < most_depth }
-    requires small { room ≤ most_size }
-    ensures ok { OnOk result (put_in room (Index at.now ∷ rest.now) new v.old ≡ Ok v.new) }
-    ensures refused { IfErr result (Refuses (put_in room (Index at.now ∷ rest.now) new v.old)) }
-    ensures unchanged { OnErr result (v.new ≡ v.old) }
-{
-    match v {
-        Value::Null => match at {
-            Value::Int(z) => {
+    match key {
+        Key::Nth(at) => match v {
+            Value::List(l) => l.write_nth(alloc, at, rest, new, room),
+            _ => {
                 let mut l = List::new(alloc);
-                l.write_index(alloc, *z, rest, new, room)?;
+                l.append(alloc, rest, new, room)?;
                 *v = Value::List(l);
                 Ok(())
             }
-            Value::Text(name) => write_member(alloc, v, name.bytes(), rest, new, room),
-            _ => Err(ValueFault::NotContainer),
         },
-        Value::List(l) => match at {
-            Value::Int(z) => l.write_index(alloc, *z, rest, new, room),
-            _ => Err(ValueFault::IndexRange),
-        },
-        Value::Object(o) => match at {
-            Value::Text(name) => o.write_member(alloc, name.bytes(), rest, new, room),
-            Value::Int(z) => {
-                let mut decimal = Buffer::new();
-                o.write_member(alloc, decimal.format(*z).as_bytes(), rest, new, room)
+        Key::Named(name) => match v {
+            Value::Object(o) => o.write_member(alloc, name, rest, new, room),
+            _ => {
+                let mut o = Object::new(alloc);
+                o.write_member(alloc, name, rest, new, room)?;
+                *v = Value::Object(o);
+                Ok(())
             }
-            _ => Err(ValueFault::NotContainer),
         },
-        _ => Err(ValueFault::NotContainer),
-    }
-}
-
-#[cycle(write)]
-fn write_append(
-    alloc: Global,
-    v: &mut Value,
-    rest: &[Step],
-    new: Value,
-    room: u64,
-) -> Result<(), ValueFault>
-    requires shallow { length rest.now + spec_depth new < most_depth }
-    requires small { room ≤ most_size }
-    ensures ok { OnOk result (put_in room (Append ∷ rest.now) new v.old ≡ Ok v.new) }
-    ensures refused { IfErr result (Refuses (put_in room (Append ∷ rest.now) new v.old)) }
-    ensures unchanged { OnErr result (v.new ≡ v.old) }
-{
-    match v {
-        Value::Null => {
-            let mut l = List::new(alloc);
-            l.append(alloc, rest, new, room)?;
-            *v = Value::List(l);
-            Ok(())
-        }
-        Value::List(l) => l.append(alloc, rest, new, room),
-        _ => Err(ValueFault::NotContainer),
     }
 }

@@ -4,17 +4,11 @@ use Rattle.uq_value.proofs.+write.Given as goal
 abbrev pub decreases-writing::write : goal.decreases-writing::write
 decreases-writing::write l = 6 * length l.steps.now
 
-abbrev pub decreases-writing::write_index : goal.decreases-writing::write_index
-decreases-writing::write_index l = 6 * length l.rest.now + 5
+abbrev pub decreases-writing::write_child : goal.decreases-writing::write_child
+decreases-writing::write_child l = 6 * length l.rest.now + 4
 
-abbrev pub decreases-writing::write_member : goal.decreases-writing::write_member
-decreases-writing::write_member l = 6 * length l.rest.now + 4
-
-abbrev pub decreases-writing::write_append : goal.decreases-writing::write_append
-decreases-writing::write_append l = 6 * length l.rest.now + 4
-
-abbrev pub decreases-list::List::write_index : goal.decreases-list::List::write_index
-decreases-list::List::write_index l = 6 * length l.rest.now + 3
+abbrev pub decreases-list::List::write_nth : goal.decreases-list::List::write_nth
+decreases-list::List::write_nth l = 6 * length l.rest.now + 3
 
 abbrev pub decreases-list::List::append : goal.decreases-list::List::append
 decreases-list::List::append l = 6 * length l.rest.now + 1
