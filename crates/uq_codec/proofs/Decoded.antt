@@ -1,5 +1,6 @@
 -- What the reader finds at the front of some bytes, and why nothing else is there.
-use Rattle.std.proofs.Common.{◌≡◌, ℕ, suc, ◌<◌, ◌≤◌, ◌+◌, true, false, ℤ, [], ◌∷◌, ◌++◌, length, None, Result, refl, sym, ap, subst, ◌∙◌, append_assoc, append-nil, length-append, arith}
+use Rattle.std.proofs.Common.{◌≡◌, ℕ, suc, get_or, take, drop, ◌-◌, ◌<◌, ◌≤◌, ◌+◌, true, false, ℤ, [], ◌∷◌, ◌++◌, length, Result, refl, sym, ap, subst, ◌∙◌, append_assoc, append-nil, length-append, arith}
+use Rattle.std.proofs.Math.Seq.{take-length}
 use Rattle.uq_value.specs.Data.{Bytes, Data, Datas, Pairs, Items, no_items, item, Members, no_members, member, null, bool, int, text, sequence, mapping, items_of, list_of, members_of, pairs_of, list, object}
 use Rattle.uq_value.specs.Size.{data_size, items_size, most_size}
 use Rattle.uq_value.specs.Depth.{data_depth, items_depth}
@@ -7,9 +8,7 @@ use Rattle.uq_codec.specs.Varint.{IsVarint}
 use Rattle.uq_codec.specs.Stored.{IsWhole, IsName, Encodes, EncodesItems, EncodesMembers}
 use Rattle.std.specs.Borrow.{Bor}
 use Rattle.uq_value.specs.declared.value.Value.{Value}
-use Rattle.uq_codec.specs.Internal.Kinds.{byte_of, ReadsKind}
 use Rattle.uq_codec.specs.Internal.Reading.{Front, NoFront, Fits, ReadsValue}
-use Rattle.uq_codec.specs.declared.kind.Kind.{Kind}
 use Rattle.uq_codec.specs.declared.error.CodecFault.{CodecFault}
 use Rattle.uq_codec.proofs.Determined.{kind, Begins, begins, varint_same, whole_long, spelling_same}
 use Rattle.uq_value.specs.Laws.Levels.{list_of-items_of}
@@ -27,7 +26,7 @@ front_kind k bytes rest d f = by (begins d f.word f.is_word)
     by : Begins f.word (kind d) → kind d ≡ k
     by b = let same : k ∷ bytes ≡ kind d ∷ (b.tail ++ rest) = f.parts ∙ ap (λ (w : Bytes). w ++ rest) b.parts in cc
 
-pub kind_small : (d : Data) → kind d ≤ 6
+kind_small : (d : Data) → kind d ≤ 6
 kind_small null = omega arith
 kind_small (bool false) = omega arith
 kind_small (bool true) = omega arith
@@ -36,23 +35,30 @@ kind_small (text bs) = omega arith
 kind_small (sequence ds) = omega arith
 kind_small (mapping ms) = omega arith
 
-pub no_kind : (byte : ℕ) (bytes : Bytes) → 6 < byte → (d : Data) → NoFront (λ word. Encodes word d) (byte ∷ bytes)
+no_kind : (byte : ℕ) (bytes : Bytes) → 6 < byte → (d : Data) → NoFront (λ word. Encodes word d) (byte ∷ bytes)
 no_kind byte bytes h d rest f = omega (arith, h, front_kind byte bytes rest d f, kind_small d)
 
-pub no_bytes : (d : Data) → NoFront (λ word. Encodes word d) []
+no_bytes : (d : Data) → NoFront (λ word. Encodes word d) []
 no_bytes d rest f = by (begins d f.word f.is_word)
   where
     by : Begins f.word (kind d) → ⊥
     by b = let same : [] ≡ kind d ∷ (b.tail ++ rest) = f.parts ∙ ap (λ (w : Bytes). w ++ rest) b.parts in cc
 
-pub no_kind_next : (bytes : Bytes) → ReadsKind bytes None → (d : Data) → NoFront (λ word. Encodes word d) bytes
-no_kind_next [] none d = no_bytes d
-no_kind_next (byte ∷ bytes) none d = no_kind byte bytes none d
+pub no_bytes_at : (bytes : Bytes) → length bytes < 1 → (d : Data) → NoFront (λ word. Encodes word d) bytes
+no_bytes_at [] h d = no_bytes d
+no_bytes_at (byte ∷ bytes) h d = absurd (omega (arith, h))
 
-pub at_kind : (room : ℕ) (bytes rest : Bytes) (one known : Kind) (result : Result (Value × Bor Bytes) CodecFault) → bytes ≡ byte_of one ∷ rest → one ≡ known → ReadsValue room (byte_of known ∷ rest) result → ReadsValue room bytes result
-at_kind room bytes rest one known result e is reads =
-    let whole : bytes ≡ byte_of known ∷ rest = e ∙ ap (λ (k : Kind). byte_of k ∷ rest) is in
-    subst (λ (w : Bytes). ReadsValue room w result) (sym whole) reads
+pub no_kind_at : (bytes : Bytes) → 1 ≤ length bytes → 6 < get_or bytes 0 0 → (d : Data) → NoFront (λ word. Encodes word d) bytes
+no_kind_at [] h k d = absurd (omega (arith, h))
+no_kind_at (byte ∷ bytes) h k d = no_kind byte bytes k d
+
+pub at_kind : (room kind : ℕ) (bytes : Bytes) (result : Result (Value × Bor Bytes) CodecFault) → 1 ≤ length bytes → get_or bytes 0 0 ≡ kind → ReadsValue room (kind ∷ take (length bytes - 1) (drop 1 bytes)) result
+    → ReadsValue room bytes result
+at_kind room kind [] result h is reads = absurd (omega (arith, h))
+at_kind room kind (byte ∷ bytes) result h is reads =
+    let less : length (byte ∷ bytes) - 1 ≡ length bytes = omega arith in
+    let rest : take (length (byte ∷ bytes) - 1) bytes ≡ bytes = ap (λ (n : ℕ). take n bytes) less ∙ take-length bytes in
+    subst (λ (w : Bytes). ReadsValue room w result) (ap (λ (k : ℕ). k ∷ take (length (byte ∷ bytes) - 1) bytes) (sym is) ∙ ap (λ (w : Bytes). byte ∷ w) rest) reads
 
 -- what a spelling of this kind has behind its byte
 behind_kind : (k : ℕ) (bytes word tail rest : Bytes) → k ∷ bytes ≡ word ++ rest → word ≡ k ∷ tail → bytes ≡ tail ++ rest

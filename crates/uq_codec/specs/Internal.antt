@@ -1,4 +1,3 @@
 -- What the private parts of the crate cite. Crates above name nothing of it.
-pub mod Kinds
 pub mod Reading
 pub mod Writing

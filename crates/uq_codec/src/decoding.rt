@@ -8,7 +8,7 @@ ghost use Rattle.uq_codec.specs.Stored.{IsWhole};
 ghost use Rattle.uq_codec.specs.Internal.Reading.{ReadsValue, ReadsItems, AddsItem, Passes, ReadsMember, ReadsMembers};
 
 use crate::error::CodecFault;
-use crate::kind::{Kind, next_kind};
+use crate::kind;
 use crate::varint::{read_length, read_name};
 use std::alloc::Global;
 use uq_value::{List, MOST_DEPTH, ObjectBuilder, Text, Value, ValueFault, is_value};
@@ -32,17 +32,18 @@ fn value(alloc: Global, room: u32, bytes: &[u8]) -> Result<(Value, &[u8]), Codec
     requires { room ≤ most_depth }
     ensures { ReadsValue room bytes.now result }
 {
-    let Some((kind, rest)) = next_kind(bytes) else {
+    let [first, rest @ ..] = bytes else {
         return Err(CodecFault::NotCanonical);
     };
-    match kind {
-        Kind::Null => Ok((Value::Null, rest)),
-        Kind::False => Ok((Value::Bool(false), rest)),
-        Kind::True => Ok((Value::Bool(true), rest)),
-        Kind::Whole => whole(rest),
-        Kind::Text => text(alloc, rest),
-        Kind::List => list(alloc, room, rest),
-        Kind::Object => object(alloc, room, rest),
+    match *first {
+        kind::NULL => Ok((Value::Null, rest)),
+        kind::FALSE => Ok((Value::Bool(false), rest)),
+        kind::TRUE => Ok((Value::Bool(true), rest)),
+        kind::WHOLE => whole(rest),
+        kind::TEXT => text(alloc, rest),
+        kind::LIST => list(alloc, room, rest),
+        kind::OBJECT => object(alloc, room, rest),
+        _ => Err(CodecFault::NotCanonical),
     }
 }
 

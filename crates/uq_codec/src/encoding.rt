@@ -4,10 +4,9 @@ ghost use Rattle.uq_value.specs.Data.{text, int, list as list_data, object as ob
 ghost use Rattle.uq_value.specs.Plain.{plain};
 ghost use Rattle.uq_codec.specs.Answer.{Appends};
 ghost use Rattle.uq_codec.specs.Stored.{IsName, Encodes};
-ghost use Rattle.uq_codec.specs.Internal.Kinds.{byte_of};
 ghost use Rattle.uq_codec.specs.Internal.Writing.{Writes, EncodesItemAt, EncodesMemberAt};
 
-use crate::kind::Kind;
+use crate::kind;
 use crate::varint::push_length;
 use byteorder::{BigEndian, ByteOrder};
 use std::alloc::{AllocError, Global};
@@ -36,9 +35,9 @@ fn push_value(out: &mut Vec<u8>, v: &Value) -> Result<(), AllocError>
     ensures { Writes (λ word. Encodes word (plain v.now)) out.old.items out.new.items result }
 {
     match v {
-        Value::Null => push_kind(out, Kind::Null),
-        Value::Bool(false) => push_kind(out, Kind::False),
-        Value::Bool(true) => push_kind(out, Kind::True),
+        Value::Null => push_kind(out, kind::NULL),
+        Value::Bool(false) => push_kind(out, kind::FALSE),
+        Value::Bool(true) => push_kind(out, kind::TRUE),
         Value::Int(z) => push_whole(out, *z),
         Value::Text(t) => push_text(out, t.bytes()),
         Value::List(l) => push_list(out, l),
@@ -50,7 +49,7 @@ fn push_value(out: &mut Vec<u8>, v: &Value) -> Result<(), AllocError>
 fn push_list(out: &mut Vec<u8>, list: &List) -> Result<(), AllocError>
     ensures { Writes (λ word. Encodes word (list_data list.now)) out.old.items out.new.items result }
 {
-    push_kind(out, Kind::List)?;
+    push_kind(out, kind::LIST)?;
     push_length(out, list.len())?;
     for at in 0..list.len() {
         push_item(out, list, at)?;
@@ -74,7 +73,7 @@ fn push_object(out: &mut Vec<u8>, object: &Object) -> Result<(), AllocError>
     ensures { Writes (λ word. Encodes word (object_data object.now)) out.old.items out.new.items result }
 {
     object.is_value();
-    push_kind(out, Kind::Object)?;
+    push_kind(out, kind::OBJECT)?;
     push_length(out, object.len())?;
     for at in 0..object.len() {
         push_member(out, object, at)?;
@@ -99,7 +98,7 @@ fn push_member(out: &mut Vec<u8>, object: &Object, at: usize) -> Result<(), Allo
 fn push_whole(out: &mut Vec<u8>, z: i64) -> Result<(), AllocError>
     ensures { Writes (λ word. Encodes word (int z)) out.old.items out.new.items result }
 {
-    let mut word = [Kind::Whole as u8; 9];
+    let mut word = [kind::WHOLE; 9];
     BigEndian::write_i64(&mut word[1..], z);
     out.extend_from_slice(&word)
 }
@@ -107,7 +106,7 @@ fn push_whole(out: &mut Vec<u8>, z: i64) -> Result<(), AllocError>
 fn push_text(out: &mut Vec<u8>, bytes: &[u8]) -> Result<(), AllocError>
     ensures { Writes (λ word. Encodes word (text bytes.now)) out.old.items out.new.items result }
 {
-    push_kind(out, Kind::Text)?;
+    push_kind(out, kind::TEXT)?;
     push_name(out, bytes)
 }
 
@@ -120,9 +119,9 @@ fn push_name(out: &mut Vec<u8>, bytes: &[u8]) -> Result<(), AllocError>
 }
 
 /// Appends the byte with which a kind begins.
-fn push_kind(out: &mut Vec<u8>, kind: Kind) -> Result<(), AllocError>
-    ensures { Writes (λ word. word ≡ byte_of kind ∷ []) out.old.items out.new.items result }
+fn push_kind(out: &mut Vec<u8>, kind: u8) -> Result<(), AllocError>
+    ensures { Writes (λ word. word ≡ kind ∷ []) out.old.items out.new.items result }
 {
-    out.push(kind as u8)?;
+    out.push(kind)?;
     Ok(())
 }

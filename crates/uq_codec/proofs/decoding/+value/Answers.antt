@@ -4,8 +4,7 @@ use Rattle.uq_value.specs.Data.{Bytes, Datas}
 use Rattle.uq_codec.specs.Stored.{IsName}
 use Rattle.uq_codec.specs.Internal.Reading.{Front}
 use Rattle.uq_value.specs.Plain.{plain}
-use Rattle.uq_codec.specs.declared.kind.Kind.TheVariants as kind
-use Rattle.uq_codec.proofs.Decoded.{ItemsSoFar, no_items_yet, one_item_more, at_kind, no_kind_next}
+use Rattle.uq_codec.proofs.Decoded.{ItemsSoFar, no_items_yet, one_item_more, at_kind, no_kind_at, no_bytes_at}
 use Rattle.uq_codec.proofs.Lists.{no_list, no_list_so_flat, list_fails, list_found, items_fails, items_full}
 use Rattle.uq_codec.proofs.Objects.{MembersSoFar, no_name, member_fails, member_found, no_members_yet, members_fail, repeated, one_member_more, members_found, no_object, no_object_so_flat, object_fails, object_found, object_refused}
 use Rattle.uq_codec.proofs.decoding.+value.Goals as goal
@@ -105,16 +104,19 @@ object-returns-in-Err t c =
     c.in_ok-members.ensures c.in-Err.ensures.refused c.refused.ensures
 
 pub value-returns-in_default : goal.value-returns-in_default
-value-returns-in_default t c d fits = no_kind_next c.args.bytes.now c.in_default.ensures d
+value-returns-in_default t c d fits = no_bytes_at c.args.bytes.now c.in_default.len_below d
 
-pub value-returns-in-Whole : goal.value-returns-in-Whole
-value-returns-in-Whole t c = at_kind c.args.room c.args.bytes.now c.in-Some.rest.now c.in-Some.kind kind.Whole c.whole.result c.in-Some.ensures c.in-Whole.is (c.whole.ensures c.args.room)
+pub value-returns-in-3 : goal.value-returns-in-3
+value-returns-in-3 t c = at_kind c.args.room 3 c.args.bytes.now c.whole.result c.in-len1-up.len_at_least c.in-3.is (c.whole.ensures c.args.room)
 
-pub value-returns-in-Text : goal.value-returns-in-Text
-value-returns-in-Text t c = at_kind c.args.room c.args.bytes.now c.in-Some.rest.now c.in-Some.kind kind.Text c.text.result c.in-Some.ensures c.in-Text.is (c.text.ensures c.args.room)
+pub value-returns-in-4 : goal.value-returns-in-4
+value-returns-in-4 t c = at_kind c.args.room 4 c.args.bytes.now c.text.result c.in-len1-up.len_at_least c.in-4.is (c.text.ensures c.args.room)
 
-pub value-returns-in-List : goal.value-returns-in-List
-value-returns-in-List t c = at_kind c.args.room c.args.bytes.now c.in-Some.rest.now c.in-Some.kind kind.List c.list.result c.in-Some.ensures c.in-List.is c.list.ensures
+pub value-returns-in-5 : goal.value-returns-in-5
+value-returns-in-5 t c = at_kind c.args.room 5 c.args.bytes.now c.list.result c.in-len1-up.len_at_least c.in-5.is c.list.ensures
 
-pub value-returns-in-Object : goal.value-returns-in-Object
-value-returns-in-Object t c = at_kind c.args.room c.args.bytes.now c.in-Some.rest.now c.in-Some.kind kind.Object c.object.result c.in-Some.ensures c.in-Object.is c.object.ensures
+pub value-returns-in-6 : goal.value-returns-in-6
+value-returns-in-6 t c = at_kind c.args.room 6 c.args.bytes.now c.object.result c.in-len1-up.len_at_least c.in-6.is c.object.ensures
+
+pub value-returns-in_default-first : goal.value-returns-in_default-first
+value-returns-in_default-first t c d fits = no_kind_at c.args.bytes.now c.in-len1-up.len_at_least (omega arith) d
