@@ -43,4 +43,4 @@ module _ {A : Type 0} (g : A → ℕ) where
   pub mended : (old new : Kept) (xs : List A) (at : ℕ) (x y : A) → at < length xs → x ≡ get_or xs at x → Mends old new (g x) (g y) (map g (set xs at y)) → CountsAre old (map g xs) → old.depth ≡ 1 + deepest_of (map g xs)
       → (new.depth ≡ 1 + deepest_of (map g (set xs at y))) × CountsAre new (map g (set xs at y))
   mended old new xs at x y h e m c d =
-      m (map g xs) at (omega (arith, h, length-map xs g)) (get_or-map g xs at x 0 h ∙ ap g (sym e)) (sym (map-set g xs at y)) c d
+      m (map g xs) at (omega (arith, h, length-map xs g)) (get_or-map g xs at x 0 h ∙ ap g (sym e)) (sym (map-set g xs at y)) (d, c)

@@ -45,10 +45,6 @@ module _ (ns : List Bytes) (k : List ℕ) where
   pub all-before : (es : List Entry) (d : Entry) → Ascending ns es → 0 < length es → is_before (label ns (get_or es (length es - 1) d)) k ≡ true → AllBefore ns k es
   all-before es d a h b = subst (λ fs. AllBefore ns k fs) (take-all es h) (take-before es (length es - 1) d a (omega (arith, h)) b)
 
-  -- the last entry of a block
-  last_of : Vec Entry Global → Entry → Entry
-  last_of b d = get_or b.items (length b.items - 1) d
-
   pub blocks-take : (bs : Blocks) (i : ℕ) (b : Vec Entry Global) (d : Entry) → Ascending ns (entries bs) → IsFilled bs → i < length bs → is_before (label ns (get_or (get_or bs i b).items (length (get_or bs i b).items - 1) d)) k ≡ true → AllBefore ns k (entries (take (suc i) bs))
   blocks-take [] i b d a f h t = absurd (omega arith)
   blocks-take (c ∷ bs) zero b d a f h t = every-append _ c.items [] (all-before c.items d (parts ns c.items (entries bs) a).first f.0 t) tt

@@ -1,14 +1,14 @@
 //! What a list or object keeps beside its parts: its size and depth, and where it has many parts what finds them.
 
-ghost use Rattle.std.specs.Prelude.{◌≡◌, ◌≤◌, ◌<◌, ◌+◌, ◌^◌, ◌++◌, [], ◌∷◌, ℕ, List, max, map, length, slice_index_or, slice_set, true, IfSome, None, IfOk, IfErr, OnOk, OnErr};
+ghost use Rattle.std.specs.Prelude.{◌≡◌, ◌≤◌, ◌<◌, ◌+◌, ◌^◌, ◌++◌, [], ◌∷◌, ℕ, List, max, map, length, true, IfSome, None, IfOk, IfErr, OnOk, OnErr};
 ghost use Rattle.std.specs.Bool.{OnTrue};
 ghost use Rattle.std.specs.List.{All};
 ghost use Rattle.uq_value.specs.Size.{most_size};
 ghost use Rattle.uq_value.specs.Depth.{most_depth};
-ghost use Rattle.uq_value.specs.Internal.Tally.{IsTally, deepest_of};
-ghost use Rattle.uq_value.specs.Internal.Beside.{Counts, CountsAre, NamesAre, LacksAt, Mends};
+ghost use Rattle.uq_value.specs.Internal.Tally.{IsTally, deepest_of, Adds, Changes, IsDeepest};
+ghost use Rattle.uq_value.specs.Internal.Beside.{Counts, CountsIn, CountsAre, DepthIs, Tells, NamesIn, NamesAre, KeepsCounts, KeepsNames, LacksAt, Mends};
 ghost use Rattle.uq_value.specs.Data.{IsDistinct};
-ghost use Rattle.uq_value.specs.Internal.Index.{IsFound, IsIndexOf};
+ghost use Rattle.uq_value.specs.Internal.Index.{IsFound, KeepsIndex};
 ghost use Rattle.uq_value.specs.Internal.Names.{names};
 
 use crate::depth_counts::DepthCounts;
@@ -42,7 +42,7 @@ impl More {
     /// Of a copy, in which parts are not counted yet.
     fn copy(&self, alloc: Global) -> Result<More, NoMemory>
         ensures counts { IfOk result (λ m. m.counts ≡ None) }
-        ensures names { IfOk result (λ m. (ns : _) → IsIndexOf ns self.now.names.blocks.items → IsIndexOf ns m.names.blocks.items) }
+        ensures names { IfOk result (λ m. KeepsIndex self.now.names.blocks.items m.names.blocks.items) }
     {
         Ok(More {
             counts: None,
@@ -53,7 +53,7 @@ impl More {
     /// A part of this depth comes.
     fn add(&mut self, depth: u32)
         requires { depth < most_depth }
-        ensures counts { (ds : List ℕ) → length ds + 1 < 2 ^ 32 → Counts self.old ds → Counts self.new (ds ++ depth ∷ []) }
+        ensures counts { Adds (Counts self.old) (Counts self.new) depth }
         ensures names { self.new.names ≡ self.old.names }
     {
         if let Some(counts) = &mut self.counts {
@@ -65,7 +65,7 @@ impl More {
     fn change(&mut self, before: u32, after: u32)
         requires before { before < most_depth }
         requires after { after < most_depth }
-        ensures counts { (ds : List ℕ) (at : ℕ) → length ds + 1 < 2 ^ 32 → at < length ds → slice_index_or ds at 0 ≡ before → Counts self.old ds → Counts self.new (slice_set ds at after) }
+        ensures counts { Changes (Counts self.old) (Counts self.new) before after }
         ensures names { self.new.names ≡ self.old.names }
     {
         if let Some(counts) = &mut self.counts {
@@ -77,7 +77,7 @@ impl More {
     fn deepest(&self, most: u32) -> Option<u32>
         requires { most < most_depth }
         ensures bound { IfSome result (λ d. d ≤ most) }
-        ensures deepest { (ds : List ℕ) → deepest_of ds ≤ most → Counts self.now ds → IfSome result (λ d. d ≡ deepest_of ds) }
+        ensures deepest { IfSome result (IsDeepest (Counts self.now) most) }
     {
         match &self.counts {
             Some(counts) => Some(counts.deepest(most)),
@@ -106,7 +106,7 @@ impl Kept {
         ensures size { IfOk result (λ k. k.size ≡ self.now.size) }
         ensures depth { IfOk result (λ k. k.depth ≡ self.now.depth) }
         ensures counts { IfOk result (λ k. (ds : List ℕ) → CountsAre k ds) }
-        ensures names { IfOk result (λ k. (ns : _) → NamesAre self.now ns → NamesAre k ns) }
+        ensures names { IfOk result (λ k. KeepsNames self.now k) }
     {
         Ok(Kept {
             size: self.size,
@@ -116,8 +116,8 @@ impl Kept {
     }
 
     fn copy_more(&self, alloc: Global) -> Result<Option<Box<More>>, NoMemory>
-        ensures counts { IfOk result (λ o. (ds : List ℕ) → IfSome o (λ m. Counts m.value ds)) }
-        ensures names { IfOk result (λ o. (ns : _) → NamesAre self.now ns → IfSome o (λ m. IsIndexOf ns m.value.names.blocks.items)) }
+        ensures counts { IfOk result (λ o. (ds : List ℕ) → CountsIn o ds) }
+        ensures names { IfOk result (λ o. (ns : _) → NamesAre self.now ns → NamesIn o ns) }
     {
         match &self.more {
             Some(more) => Ok(Some(Box::new(alloc, more.copy(alloc)?)?)),
@@ -142,8 +142,8 @@ impl Kept {
         requires { size ≤ most_size }
         ensures size { result.size ≡ size }
         ensures depth { result.depth ≡ depth }
-        ensures counts { (ds : List ℕ) → CountsAre self ds → CountsAre result ds }
-        ensures names { (ns : _) → NamesAre self ns → NamesAre result ns }
+        ensures counts { KeepsCounts self result }
+        ensures names { KeepsNames self result }
     {
         Kept {
             size: size as u32,
@@ -158,8 +158,8 @@ impl Kept {
         requires shallow { depth < most_depth }
         ensures size { self.new.size ≡ size }
         ensures depth { self.new.depth ≡ max self.old.depth (depth + 1) }
-        ensures counts { (ds : List ℕ) → length ds + 1 < 2 ^ 32 → CountsAre self.old ds → CountsAre self.new (ds ++ depth ∷ []) }
-        ensures names { (ns : _) → NamesAre self.old ns → NamesAre self.new ns }
+        ensures counts { Adds (CountsAre self.old) (CountsAre self.new) depth }
+        ensures names { KeepsNames self.old self.new }
     {
         self.size = size as u32;
         self.depth = self.depth.max(depth + 1);
@@ -175,8 +175,8 @@ impl Kept {
         requires after { after < most_depth }
         ensures size { self.new.size ≡ size }
         ensures depth { self.new.depth ≡ self.old.depth }
-        ensures counts { (ds : List ℕ) (at : ℕ) → length ds + 1 < 2 ^ 32 → at < length ds → slice_index_or ds at 0 ≡ before → CountsAre self.old ds → CountsAre self.new (slice_set ds at after) }
-        ensures names { (ns : _) → NamesAre self.old ns → NamesAre self.new ns }
+        ensures counts { Changes (CountsAre self.old) (CountsAre self.new) before after }
+        ensures names { KeepsNames self.old self.new }
     {
         self.size = size as u32;
         if let Some(more) = &mut self.more {
@@ -201,7 +201,7 @@ impl Kept {
         requires kept { before + 1 ≤ self.old.depth }
         ensures size { self.new.size ≡ size }
         ensures mended { Mends self.old self.new before after (map P.depth_of parts.now) }
-        ensures names { (ns : _) → NamesAre self.old ns → NamesAre self.new ns }
+        ensures names { KeepsNames self.old self.new }
     {
         if !self.change(size, before, after) {
             self.take_counts(alloc, count(parts), parts.len());
@@ -216,9 +216,9 @@ impl Kept {
         requires after { after < most_depth }
         requires kept { before + 1 ≤ self.old.depth }
         ensures size { self.new.size ≡ size }
-        ensures depth { OnTrue result ((ds : List ℕ) (at : ℕ) → length ds + 1 < 2 ^ 32 → at < length ds → slice_index_or ds at 0 ≡ before → CountsAre self.old ds → self.old.depth ≡ 1 + deepest_of ds → self.new.depth ≡ 1 + deepest_of (slice_set ds at after)) }
-        ensures counts { (ds : List ℕ) (at : ℕ) → length ds + 1 < 2 ^ 32 → at < length ds → slice_index_or ds at 0 ≡ before → CountsAre self.old ds → CountsAre self.new (slice_set ds at after) }
-        ensures names { (ns : _) → NamesAre self.old ns → NamesAre self.new ns }
+        ensures depth { OnTrue result (Changes (Tells self.old) (DepthIs self.new) before after) }
+        ensures counts { Changes (CountsAre self.old) (CountsAre self.new) before after }
+        ensures names { KeepsNames self.old self.new }
     {
         self.note(size, before, after);
         if after + 1 >= self.depth {
@@ -241,7 +241,7 @@ impl Kept {
     fn deepest(&self, most: u32) -> Option<u32>
         requires { most < most_depth }
         ensures bound { IfSome result (λ d. d ≤ most) }
-        ensures deepest { (ds : List ℕ) → deepest_of ds ≤ most → CountsAre self.now ds → IfSome result (λ d. d ≡ deepest_of ds) }
+        ensures deepest { IfSome result (IsDeepest (CountsAre self.now) most) }
     {
         match &self.more {
             Some(more) => more.deepest(most),
@@ -252,9 +252,9 @@ impl Kept {
     /// Takes the depth from parts that were counted, and keeps the counts where there are many and there is memory.
     fn take_counts(&mut self, alloc: Global, counts: DepthCounts, parts: usize)
         ensures size { self.new.size ≡ self.old.size }
-        ensures depth { (ds : List ℕ) → deepest_of ds < most_depth → IsTally counts.counts ds → self.new.depth ≡ 1 + deepest_of ds }
+        ensures depth { (ds : List ℕ) → deepest_of ds < most_depth → IsTally counts.counts ds → DepthIs self.new ds }
         ensures counts { (ds : List ℕ) → IsTally counts.counts ds → CountsAre self.old ds → CountsAre self.new ds }
-        ensures names { (ns : _) → NamesAre self.old ns → NamesAre self.new ns }
+        ensures names { KeepsNames self.old self.new }
     {
         self.depth = counts.deepest(MOST_DEPTH - 1) + 1;
         if parts > FEW {
@@ -266,7 +266,7 @@ impl Kept {
         ensures size { self.new.size ≡ self.old.size }
         ensures depth { self.new.depth ≡ self.old.depth }
         ensures counts { (ds : List ℕ) → IsTally counts.counts ds → CountsAre self.old ds → CountsAre self.new ds }
-        ensures names { (ns : _) → NamesAre self.old ns → NamesAre self.new ns }
+        ensures names { KeepsNames self.old self.new }
     {
         let Ok(counts) = Box::new(alloc, counts) else {
             return;
@@ -321,7 +321,7 @@ impl Kept {
         ensures unchanged { OnErr result (NamesAre self.new (names members.now)) }
         ensures size { self.new.size ≡ self.old.size }
         ensures depth { self.new.depth ≡ self.old.depth }
-        ensures counts { (ds : List ℕ) → CountsAre self.old ds → CountsAre self.new ds }
+        ensures counts { KeepsCounts self.old self.new }
     {
         match &mut self.more {
             Some(more) => more.names.add(alloc, members, name, spot),

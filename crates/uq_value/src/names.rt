@@ -1,9 +1,9 @@
 //! The places of an object's members in the order of their names, so that one of many is found in about log n steps.
 
-ghost use Rattle.std.specs.Prelude.{◌≡◌, ◌≤◌, ◌<◌, ◌-◌, ◌+◌, ◌++◌, [], ◌∷◌, true, length, take, drop, IfOk, IfErr, OnOk, OnErr, slice_get, slice_index_or, MatchBool};
+ghost use Rattle.std.specs.Prelude.{◌≡◌, ◌≤◌, ◌<◌, ◌-◌, ◌+◌, ◌++◌, [], ◌∷◌, length, take, drop, IfOk, IfErr, OnOk, OnErr, slice_get, slice_index_or};
 ghost use Rattle.uq_value.specs.Data.{IsDistinct};
-ghost use Rattle.uq_value.specs.Internal.NameOrder.{digest as spec_digest, key, is_before as spec_is_before};
-ghost use Rattle.uq_value.specs.Internal.Index.{entries, label, AllBefore, AllWithin, NoneBefore, Ascending, IsIndex, IsFilled, front, rest, IsPlace, Belongs, Splits, SplitsBlocks, IsFound, IsMissing, Lacks, IsIndexOf};
+ghost use Rattle.uq_value.specs.Internal.NameOrder.{digest as spec_digest, is_before as spec_is_before};
+ghost use Rattle.uq_value.specs.Internal.Index.{entries, label, last_of, rest, with_entry, AllBefore, AllWithin, NoneBefore, Ascending, IsFor, IsIndex, IsFilled, IsPlace, IsEntry, Belongs, Splits, SplitsBlocks, IsFound, IsMissing, Lacks, IsIndexOf, KeepsIndex};
 ghost use Rattle.uq_value.specs.Internal.Names.{names};
 ghost use Rattle.uq_value.specs.Places.{place_of};
 
@@ -63,7 +63,7 @@ fn is_before(entry: &Entry, members: &[Member], digest: u64, name: &[u8]) -> boo
 /// Whether the entry is for the name of this digest.
 fn is_for(entry: &Entry, members: &[Member], digest: u64, name: &[u8]) -> bool
     requires { entry.now.at < length members.now }
-    ensures { MatchBool result (label (names members.now) entry.now ≡ digest ∷ name.now) (label (names members.now) entry.now ≡ digest ∷ name.now → ⊥) }
+    ensures { IsFor result (names members.now) entry.now (digest ∷ name.now) }
 {
     entry.digest == digest && members[entry.at].name() == name
 }
@@ -92,7 +92,7 @@ fn entries_before(entries: &[Entry], members: &[Member], digest: u64, name: &[u8
 fn is_block_before(block: &[Entry], members: &[Member], digest: u64, name: &[u8]) -> bool
     requires within { AllWithin (names members.now) block.now }
     requires filled { 0 < length block.now }
-    ensures { (d : _) → result ≡ spec_is_before (label (names members.now) (slice_index_or block.now (length block.now - 1) d)) (digest ∷ name.now) }
+    ensures { (d : _) → result ≡ spec_is_before (label (names members.now) (last_of block.now d)) (digest ∷ name.now) }
 {
     is_before(&block[block.len() - 1], members, digest, name)
 }
@@ -122,7 +122,7 @@ impl NameIndex {
 
     /// The same index, in memory of its own.
     pub(crate) fn copy(&self, alloc: Global) -> Result<NameIndex, NoMemory>
-        ensures { IfOk result (λ i. (ns : _) → IsIndexOf ns self.now.blocks.items → IsIndexOf ns i.blocks.items) }
+        ensures { IfOk result (λ i. KeepsIndex self.now.blocks.items i.blocks.items) }
     {
         let mut blocks = Vec::with_capacity(alloc, self.blocks.len())?;
         for block in &self.blocks {
@@ -185,6 +185,7 @@ impl NameIndex {
             }
         }
     }
+
     /// How many of the blocks come before the name as a whole.
     fn blocks_before(&self, members: &[Member], digest: u64, name: &[u8]) -> usize
         requires { IsIndex (names members.now) self.now.blocks.items }
@@ -217,7 +218,7 @@ impl NameIndex {
 
     /// The entry that stands there.
     fn entry(&self, spot: Spot) -> Option<Entry>
-        requires { (b : _) → spot.block < length self.now.blocks.items → spot.entry < length (slice_index_or self.now.blocks.items spot.block b).items }
+        requires { IsEntry self.now.blocks.items spot.block spot.entry }
         ensures { result ≡ slice_get (rest self.now.blocks.items spot.block spot.entry) 0 }
     {
         if spot.block < self.blocks.len() {
@@ -304,7 +305,7 @@ impl NameIndex {
         requires within { spot.block < length self.old.blocks.items }
         requires place { IsPlace self.old.blocks.items spot.block spot.entry }
         requires filled { IsFilled self.old.blocks.items }
-        ensures ok { OnOk result (entries self.new.blocks.items ≡ front self.old.blocks.items spot.block spot.entry ++ entry ∷ rest self.old.blocks.items spot.block spot.entry) }
+        ensures ok { OnOk result (entries self.new.blocks.items ≡ with_entry self.old.blocks.items spot.block spot.entry entry) }
         ensures unchanged { OnErr result (entries self.new.blocks.items ≡ entries self.old.blocks.items) }
         ensures filled { IsFilled self.new.blocks.items }
     {

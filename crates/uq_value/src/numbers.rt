@@ -1,5 +1,5 @@
 //! The numbers of values and of texts.
-ghost use Rattle.std.specs.Prelude.{◌≡◌, ◌-◌, ◌^◌, ◌≤◌, min, option_map};
+ghost use Rattle.std.specs.Prelude.{◌≡◌, ◌-◌, ◌^◌, min, option_map};
 ghost use Rattle.uq_value.specs.Number.{number as spec_number, text_number as spec_text_number, unsigned as spec_unsigned, signed, positive as spec_positive, negative as spec_negative};
 
 use crate::value::Value;

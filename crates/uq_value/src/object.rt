@@ -1,12 +1,12 @@
 //! Objects, and writes within them.
-ghost use Rattle.std.specs.Prelude.{◌≡◌, ◌≤◌, ◌<◌, ◌+◌, [], ◌∷◌, ◌++◌, ℕ, List, length, map, min, ◌-◌, ◌^◌, slice_get, option_copied, option_map, IfSome, IfOk, IfErr, OnOk, OnErr, Ok};
+ghost use Rattle.std.specs.Prelude.{◌≡◌, ◌≤◌, ◌<◌, ◌+◌, [], ◌∷◌, ◌++◌, length, map, min, ◌-◌, ◌^◌, slice_get, option_copied, option_map, IfSome, IfOk, IfErr, OnOk, OnErr, Ok};
 ghost use Rattle.uq_value.specs.Faults.{Refuses};
 ghost use Rattle.uq_value.specs.Put.{limited, named};
 ghost use Rattle.uq_value.specs.Internal.Writing.{put_at, name_at, object_beside_next};
 ghost use Rattle.uq_value.specs.declared.value.Value.{Value};
 ghost use Rattle.uq_value.specs.Internal.Names.{name_of, names, member_depth};
 ghost use Rattle.uq_value.specs.Internal.Kept.{plain_member};
-ghost use Rattle.uq_value.specs.Internal.Beside.{CountsAre, NamesAre, LacksAt};
+ghost use Rattle.uq_value.specs.Internal.Beside.{CountsAre, NamesAre, KeepsCounts, LacksAt};
 ghost use Rattle.uq_value.specs.Data.{object, members_of, IsDistinct};
 ghost use Rattle.uq_value.specs.Size.{data_size, text_size, most_size};
 ghost use Rattle.uq_value.specs.Depth.{data_depth, most_depth};
@@ -314,7 +314,7 @@ pub(crate) fn add(
     ensures index { NamesAre kept.new (names members.new.items) }
     ensures size { kept.new.size ≡ kept.old.size }
     ensures depth { kept.new.depth ≡ kept.old.depth }
-    ensures counts { (ds : List ℕ) → CountsAre kept.old ds → CountsAre kept.new ds }
+    ensures counts { KeepsCounts kept.old kept.new }
 {
     // the member then has its place, whatever becomes of the index
     members.try_reserve(1)?;

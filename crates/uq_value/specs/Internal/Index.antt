@@ -1,5 +1,5 @@
 -- The places of an object's members in the order of their names' keys, cut into blocks.
-use Rattle.std.specs.Prelude.{◌≡◌, ◌<◌, ◌≤◌, ◌-◌, ℕ, zero, suc, true, false, List, [], ◌∷◌, ◌++◌, length, take, drop, slice_index_or, Vec, ◌⊎◌}
+use Rattle.std.specs.Prelude.{◌≡◌, ◌<◌, ◌≤◌, ◌-◌, ℕ, zero, suc, Bool, true, false, MatchBool, List, [], ◌∷◌, ◌++◌, length, take, drop, slice_index_or, Vec, ◌⊎◌}
 use Rattle.std.specs.List.{flat_map, AllByRecursion}
 use Rattle.std.specs.declared.alloc.Global.{Global}
 use Rattle.uq_value.specs.Data.{Bytes, is_among}
@@ -38,6 +38,14 @@ HasKey ns k (e ∷ es) = (label ns e ≡ k) ⊎ HasKey ns k es
 abbrev pub AllWithin : List Bytes → List Entry → Type 0
 AllWithin ns es = AllByRecursion (λ e. e.at < length ns) es
 
+-- whether an entry is for a key
+abbrev pub IsFor : Bool → List Bytes → Entry → List ℕ → Type 0
+IsFor is ns e k = MatchBool is (label ns e ≡ k) (label ns e ≡ k → ⊥)
+
+-- the last of these entries
+abbrev pub last_of : List Entry → Entry → Entry
+last_of es e = slice_index_or es (length es - 1) e
+
 -- no block is empty
 abbrev pub IsFilled : Blocks → Type 0
 IsFilled bs = AllByRecursion (λ b. 0 < length b.items) bs
@@ -60,6 +68,14 @@ rest [] block at = []
 rest (b ∷ bs) zero at = drop at b.items ++ entries bs
 rest (b ∷ bs) (suc block) at = rest bs block at
 
+-- the entries with one more in that place
+abbrev pub with_entry : Blocks → ℕ → ℕ → Entry → List Entry
+with_entry bs block at e = front bs block at ++ e ∷ rest bs block at
+
+-- an entry stands there, where it is not the end
+abbrev pub IsEntry : Blocks → ℕ → ℕ → Type 0
+IsEntry bs block at = (b : Vec Entry Global) → block < length bs → at < length (slice_index_or bs block b).items
+
 -- the place is within a block, or it is the end
 pub record IsPlace (bs : Blocks) (block at : ℕ) : Type 0 where
   pub block_within : block ≤ length bs
@@ -79,12 +95,12 @@ NoneBefore ns k es = AllByRecursion (λ e. is_before (label ns e) k ≡ false) e
 pub record SplitsBlocks (ns : List Bytes) (k : List ℕ) (bs : Blocks) (block : ℕ) : Type 0 where
   pub within : block ≤ length bs
   pub front_before : AllBefore ns k (entries (take block bs))
-  pub next_not : (b : Vec Entry Global) (e : Entry) → block < length bs → is_before (label ns (slice_index_or (slice_index_or bs block b).items (length (slice_index_or bs block b).items - 1) e)) k ≡ false
+  pub next_not : (b : Vec Entry Global) (e : Entry) → block < length bs → is_before (label ns (last_of (slice_index_or bs block b).items e)) k ≡ false
 
 -- the entries in front of a place come before a key, and no others
 pub record Splits (ns : List Bytes) (k : List ℕ) (bs : Blocks) (block at : ℕ) : Type 0 where
   pub place : IsPlace bs block at
-  pub inner : (b : Vec Entry Global) → block < length bs → at < length (slice_index_or bs block b).items
+  pub inner : IsEntry bs block at
   pub front_before : AllBefore ns k (front bs block at)
   pub rest_not : NoneBefore ns k (rest bs block at)
 
@@ -101,6 +117,10 @@ pub record IsMissing (ns : List Bytes) (name : Bytes) (bs : Blocks) (block at : 
 -- an index that has begun is one of these names
 abbrev pub IsIndexOf : List Bytes → Blocks → Type 0
 IsIndexOf ns bs = 0 < length bs → IsIndex ns bs
+
+-- what is an index of some names stays one of these
+abbrev pub KeepsIndex : Blocks → Blocks → Type 0
+KeepsIndex old new = (ns : List Bytes) → IsIndexOf ns old → IsIndexOf ns new
 
 -- likewise, whether or not the index has begun
 pub record Lacks (ns : List Bytes) (name : Bytes) (bs : Blocks) (block at : ℕ) : Type 0 where
