@@ -24,6 +24,7 @@ pub fn create<P: Pages>(p: &mut P) -> Result<Header, PagesFault>
     requires sound { P.is_sound p.old ≡ true }
     requires empty { P.size p.old ≡ 0 }
     ensures created { IfOk result (λ header. IsCreated (P.pages p.old) (P.pages p.new) header) }
+    ensures sums { IfOk result (λ header. (header.entries ≡ 0) × (header.bytes ≡ 0)) }
     ensures told { UnlessErr PagesFault.Failed result (is_some (P.pages p.new) ≡ is_some (P.pages p.old)) }
     ensures size { OnOk result (P.size p.new ≡ 2) }
     ensures asked { P.asked p.new ≡ P.asked p.old }

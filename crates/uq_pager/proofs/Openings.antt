@@ -1,6 +1,6 @@
 -- What an opening leaves.
-use Rattle.std.proofs.Common.{◌≡◌, ℕ, ◌*◌, ◌<◌, ◌^◌, false, List, [], length, Option, Some, None, refl, sym, ap, subst, ◌∙◌}
-use Rattle.std.specs.Prelude.{⊤}
+use Rattle.std.proofs.Common.{◌≡◌, ℕ, ◌+◌, ◌*◌, ◌<◌, ◌≤◌, ◌^◌, false, List, [], length, take, drop, Option, Some, None, refl, sym, ap, subst, ◌∙◌, arith}
+use Rattle.std.specs.Prelude.{⊤, slice_get}
 use Rattle.std.specs.Option.{ForSome, option_map, option_and_then}
 use Rattle.uq_outside.specs.declared.disk.Disk.{Ghosts}
 use Rattle.uq_outside.specs.Files.{Files}
@@ -14,7 +14,8 @@ use Rattle.uq_journal.specs.Batches.{Original}
 use Rattle.uq_pager.specs.Opening.{IsNoDatabase, RecoversToCount, RestsAt, just_opened}
 use Rattle.uq_pager.specs.Paged.{paged_by, pages_on}
 use Rattle.uq_pager.proofs.Fetching.{rest_still}
-use Rattle.uq_pager.proofs.Reading.{main_size}
+use Rattle.uq_pager.specs.PagerLaws.{pages_parts}
+use Rattle.uq_pager.proofs.Reading.{main_size, page_read}
 
 -- a main file of so many pages has them
 counted : (main : List ℕ) (journal : List ℕ) (n : ℕ) → length main ≡ PAGE_SIZE * n → option_map length (pages_of main) ≡ Some n
@@ -66,3 +67,22 @@ pub recovered_here : {D : Type 0} (g : Ghosts D) (start disk : D) → ToldAlike 
 recovered_here g start disk alike main files on =
     let now = told_some (λ _ _. ⊤) files (g.content disk) (subst (λ o. ToldAlike o (g.content disk)) on alike) in
     ap (option_and_then (λ (f : Files). pages_of f.main)) now.1 ∙ sym (ap (option_and_then pages_of) (main files on now.0 now.1))
+
+-- a page of a disk that rests with so many pages
+module _ {D : Type 0} (g : Ghosts D) (disk : D) (n k : ℕ) (rests : RestsAt g disk n) (lt : k < n) where
+  pub lies_ready : (size : ℕ) → size ≡ PAGE_SIZE → ForSome (g.content disk) (λ files. PAGE_SIZE * k + size ≤ length files.main)
+  lies_ready size is files told = let len = main_size files.main n (rests files told).pages in omega (arith, len, is)
+
+  pub read_ready : (bytes : List ℕ) (size : ℕ) → size ≡ PAGE_SIZE → ForSome (g.content disk) (λ files. bytes ≡ take size (drop (PAGE_SIZE * k) files.main)) → ForSome (pages_on g disk) (λ pages. slice_get pages k ≡ Some bytes)
+  read_ready bytes size is read pages on =
+      let parts = pages_parts (g.content disk) pages on in
+      let counted : Some n ≡ Some (length pages) = sym (rests parts.0 parts.1).pages ∙ ap (option_map length) parts.2 in
+      let many : n ≡ length pages = cc in
+      page_read parts.0.main pages k size bytes is parts.2 (omega (arith, many)) (read parts.0 parts.1)
+
+-- a call that changes nothing leaves it at rest
+pub ready_still : {D : Type 0} (g : Ghosts D) (old new : D) (n : ℕ) → g.content new ≡ g.content old → Only (g.may_leave old) (g.may_leave new) → RestsAt g old n → RestsAt g new n
+ready_still g old new n same only rests files told = record {
+  rest = rest_still g old new same only (λ f on. (rests f on).rest) files told;
+  pages = (rests files (sym same ∙ told)).pages;
+}

@@ -33,6 +33,15 @@ get_joined (page ∷ pages) (suc k) at is whole lt =
     ∙ ap (λ (l : List ℕ). Some (take PAGE_SIZE l)) (sym (drop-append-add page (joined pages) (PAGE_SIZE * k)))
     ∙ ap (λ (n : ℕ). Some (take PAGE_SIZE (drop n (page ++ joined pages)))) (sym place)
 
+-- the bytes of a page of a main file are that page
+pub page_read : (main : List ℕ) (pages : List (List ℕ)) (k size : ℕ) (bytes : List ℕ) → size ≡ PAGE_SIZE → pages_of main ≡ Some pages → k < length pages → bytes ≡ take size (drop (PAGE_SIZE * k) main) → slice_get pages k ≡ Some bytes
+page_read main pages k size bytes is these_are lt read =
+    let these = these_pages main pages these_are in
+    get_joined pages k (PAGE_SIZE * k) refl these.whole lt
+    ∙ ap (λ (m : List ℕ). Some (take PAGE_SIZE (drop (PAGE_SIZE * k) m))) (sym these.bytes)
+    ∙ ap (λ (n : ℕ). Some (take n (drop (PAGE_SIZE * k) main))) (sym is)
+    ∙ ap (λ (b : List ℕ). Some b) (sym read)
+
 -- how long a main file is
 size_by : (main : List ℕ) (n : ℕ) (o : Option (List (List ℕ))) → pages_of main ≡ o → option_map length o ≡ Some n → length main ≡ PAGE_SIZE * n
 size_by main n None is size = absurd (cc)
@@ -101,11 +110,7 @@ module _ {D : Type 0} (g : Ghosts D) (it : Pager D g) (k : ℕ) where
       → ForSome (pages_on g it.disk.now) (λ pages. slice_get pages k ≡ Some bytes)
   read_bytes bytes size is sound lt read pages on =
       let here = stands g it pages sound on in
-      let these = these_pages here.files.main pages here.main in
-      get_joined pages k (PAGE_SIZE * k) refl these.whole (omega (arith, here.size))
-      ∙ ap (λ (m : List ℕ). Some (take PAGE_SIZE (drop (PAGE_SIZE * k) m))) (sym these.bytes)
-      ∙ ap (λ (n : ℕ). Some (take n (drop (PAGE_SIZE * k) here.files.main))) (sym is)
-      ∙ ap (λ (b : List ℕ). Some b) (sym (read here.files here.told))
+      page_read here.files.main pages k size bytes is here.main (omega (arith, here.size)) (read here.files here.told)
 
 -- what holds of the clean pages
 pub record CleanHolds {D : Type 0} (g : Ghosts D) (it : Pager D g) (clean : List (ℕ × Page)) : Type 0 where

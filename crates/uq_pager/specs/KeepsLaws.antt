@@ -1,12 +1,12 @@
 -- Laws of what calls keep of the disk.
-use Rattle.std.specs.Prelude.{ℕ, List}
+use Rattle.std.specs.Prelude.{ℕ, List, ⊤}
 use Rattle.std.specs.Option.{option_and_then}
 use Rattle.std.specs.Borrow.{MutBor}
 use Rattle.std.proofs.Common.{refl, ap, ◌∙◌}
 use Rattle.uq_outside.specs.declared.disk.Disk.{Ghosts}
 use Rattle.uq_outside.specs.Since.{After, Laws}
-use Rattle.uq_outside.specs.SinceLaws.{started, goes_on, weaker, at_end}
-use Rattle.uq_journal.specs.Calls.{RecoversAs}
+use Rattle.uq_outside.specs.SinceLaws.{started, goes_on, weaker, at_end, steps_on, told_same}
+use Rattle.uq_journal.specs.Calls.{IsStill, RecoversAs, Stays}
 use Rattle.uq_journal.specs.Pages.{pages_of}
 use Rattle.uq_pager.specs.Keeps.{KeepsDisk}
 use Rattle.uq_pager.specs.Paged.{Commits}
@@ -28,3 +28,16 @@ module _ {D : Type 0} (g : Ghosts D) (laws : Laws g) where
   commits_still a b pages keeps commits files left =
       let was = at_end g (After g a.now RecoversAs) laws.counts_now a.now b.now keeps.stop files left in
       ap (option_and_then pages_of) was.2 ∙ commits was.0 was.1
+
+  -- calls that change nothing
+  pub still_itself : (disk : D) → IsStill g disk disk
+  still_itself disk = record {
+    same = refl;
+    steps = record { told = told_same (λ _ _. ⊤) (λ x. tt) (g.content disk); stop = started g (After g disk Stays) laws.only_now disk (λ files left. (files, left, refl)) };
+  }
+
+  pub still_on : (a b c : D) → IsStill g a b → IsStill g b c → IsStill g a c
+  still_on a b c first second = record {
+    same = second.same ∙ first.same;
+    steps = steps_on g Stays (λ x y z one two. two ∙ one) laws.counts_now a b c first.steps second.steps;
+  }

@@ -12,3 +12,4 @@ pub mod Pager
 pub mod PagerLaws
 pub mod Places
 pub mod PlacesLaws
+pub mod Ready

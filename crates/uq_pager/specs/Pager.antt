@@ -7,6 +7,7 @@ use Rattle.uq_page.specs.declared.page.Page.{Page}
 use Rattle.std.specs.Option.{ForSome, option_map}
 use Rattle.std.specs.Map.{keys_of}
 use Rattle.uq_outside.specs.declared.disk.Disk.{Ghosts}
+use Rattle.uq_journal.specs.Calls.{IsStill}
 use Rattle.uq_journal.specs.Pages.{with_batch}
 use Rattle.uq_pager.specs.declared.pager.Pager.{Pager}
 use Rattle.uq_pager.specs.Changes.{batch_of}
@@ -52,9 +53,10 @@ module _ {D : Type 0} (g : Ghosts D) where
     pub begun : old.is_begun ≡ true → new.is_begun ≡ true
     pub cache : cache_of new ≡ cache_of old
 
-  -- what a call keeps that only reads
+  -- what a call keeps that only reads; it changes nothing on the disk
   pub record OnlyReads (old new : Pager D g) : Type 0 where
     pub keeps : KeepsPager old new
+    pub still : IsStill g old.disk.now new.disk.now
     pub paged : IsSound new → paged new ≡ paged old
     pub begun : new.is_begun ≡ old.is_begun
     pub changes : batch_of new.changes ≡ batch_of old.changes

@@ -14,7 +14,7 @@ use Rattle.uq_pager.specs.declared.pager.Pager.{Pager}
 use Rattle.uq_pager.specs.BatchLaws.{length_batch}
 use Rattle.uq_pager.specs.Changes.{batch_of}
 use Rattle.uq_pager.specs.ChangesLaws.{changes_sized}
-use Rattle.uq_pager.specs.KeepsLaws.{keeps_itself, keeps_on}
+use Rattle.uq_pager.specs.KeepsLaws.{keeps_itself, keeps_on, still_itself, still_on}
 use Rattle.uq_pager.specs.Paged.{pages_on, told_while}
 use Rattle.uq_pager.specs.Pager.{IsCommitted, KeepsPager, OnlyReads, present}
 
@@ -96,11 +96,12 @@ module _ {D : Type 0} (g : Ghosts D) where
     }
 
     pub reads_pager : (it : Pager D g) → OnlyReads g it it
-    reads_pager it = record { keeps = keeps_pager it; paged = λ _. refl; begun = refl; changes = refl }
+    reads_pager it = record { keeps = keeps_pager it; still = still_itself g laws it.disk.now; paged = λ _. refl; begun = refl; changes = refl }
 
     pub reads_pager_on : (a b c : Pager D g) → OnlyReads g a b → OnlyReads g b c → OnlyReads g a c
     reads_pager_on a b c first second = record {
       keeps = keeps_pager_on a b c first.keeps second.keeps;
+      still = still_on g laws a.disk.now b.disk.now c.disk.now first.still second.still;
       paged = λ s. second.paged s ∙ first.paged (second.keeps.sound s);
       begun = second.begun ∙ first.begun;
       changes = second.changes ∙ first.changes;

@@ -87,6 +87,46 @@ pub fn recover<D: Disk>(alloc: Global, disk: &mut D, cache: u32) -> Result<Ready
     }
 }
 
+impl Ready {
+    ghost use Rattle.std.specs.Prelude.{OnErr, Err, slice_get};
+    ghost use Rattle.uq_page.specs.Page.{bytes_of};
+    ghost use Rattle.uq_journal.specs.Calls.{IsStill};
+    ghost use Rattle.uq_pager.specs.Paged.{pages_on};
+    ghost use Rattle.uq_pager.specs.Ready.{RestsReady};
+
+    /// How many pages there are.
+    pub fn count(&self) -> u32
+        ensures { result ≡ self.now.saved }
+    {
+        self.saved
+    }
+
+    /// Copies page `no` from the disk that was recovered.
+    pub fn read_page<D: Disk>(
+        &self,
+        disk: &mut D,
+        no: u32,
+        into: &mut Page,
+    ) -> Result<(), PagerFault>
+        requires rest { RestsReady D.Disk disk.old self.now }
+        requires there { no < self.now.saved }
+        ensures page { OnOk result (ForSome (pages_on D.Disk disk.old) (λ pages. slice_get pages no ≡ Some (bytes_of into.new))) }
+        ensures rest { RestsReady D.Disk disk.new self.now }
+        ensures still { IsStill D.Disk disk.old disk.new }
+        ensures kind { OnErr result (result ≡ Err PagerFault.Disk) }
+        ensures cause { HasCauseAt PagerFault.Disk (D.faults disk.old) (D.faults disk.new) result }
+    {
+        let mut bytes = [0; PAGE_SIZE];
+        match disk.read(FileNo::Main, PAGE_SIZE as u64 * no as u64, &mut bytes) {
+            Ok(()) => {
+                *into = Page::from_bytes(bytes);
+                Ok(())
+            }
+            Err(_) => Err(PagerFault::Disk),
+        }
+    }
+}
+
 impl<'d, D: Disk> Pager<'d, D> {
     ghost use Rattle.uq_pager.specs.Opening.{just_opened};
     ghost use Rattle.uq_pager.specs.Paged.{pages_on};

@@ -35,6 +35,7 @@ impl<'d, D: Disk> Pager<'d, D> {
         ensures told { OnOk result (paged D.Disk self.new ≡ option_map committed (paged D.Disk self.old)) }
         ensures begun { OnOk result (self.new.is_begun ≡ false) }
         ensures count { OnOk result (self.new.count ≡ self.old.count) }
+        ensures idle { self.old.is_begun ≡ false → self.new.disk ≡ self.old.disk }
         // A stop within leaves the committed pages or the present ones, and after Ok the present ones alone.
         ensures stop { ForSome (paged D.Disk self.old) (λ it. LeavesOnly D.Disk self.old.disk.now self.new.disk.now (RecoversToOne it.committed it.present)) }
         ensures durable { OnOk result (ForSome (paged D.Disk self.old) (λ it. Commits D.Disk self.new.disk.now it.present)) }

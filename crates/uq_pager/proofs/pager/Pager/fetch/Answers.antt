@@ -5,7 +5,7 @@ use Rattle.lru.specs.LruCache.{LruCache}
 use Rattle.uq_outside.specs.SinceLaws.{still_steps}
 use Rattle.uq_page.specs.Page.{bytes_of}
 use Rattle.uq_page.specs.declared.page.Page.{Page}
-use Rattle.uq_journal.specs.Calls.{RecoversAs}
+use Rattle.uq_journal.specs.Calls.{RecoversAs, Stays}
 use Rattle.uq_journal.specs.Pages.{with_batch}
 use Rattle.uq_pager.specs.Changes.{batch_of}
 use Rattle.uq_pager.specs.Clean.{clean_of}
@@ -69,6 +69,7 @@ returns-in-Ok-put g c =
           begun = λ b. b;
           cache = ap (λ (clean : LruCache ℕ Page). clean.cap) put;
         };
+        still = record { same = c.in-Ok.ensures.same; steps = still_steps g.D.Disk Stays (λ files. refl) g.met.D.Disk.only_now it.disk.now c.read.new.self c.in-Ok.ensures.same c.in-Ok.ensures.stop c.in-Ok.ensures.time };
         paged = λ _. ap (λ o. told_while it.is_sound (option_map (paged_by (batch_of it.changes) it.is_begun) o)) same;
         begun = refl;
         changes = refl;
