@@ -1,0 +1,16 @@
+//! How much a store may hold.
+
+/// No store has more entries: 2^24.
+pub const MOST_ENTRIES: u64 = 16_777_216;
+
+/// No store has more bytes: 2^30.
+pub const MOST_BYTES: u64 = 1_073_741_824;
+
+/// The limits of a store. A write is refused where it makes entries or bytes greater than before and greater than here.
+#[derive(Clone, Copy, Debug, PartialEq, Eq)]
+pub struct Limits {
+    /// How many entries there may be, at most 2^24.
+    pub entries: u64,
+    /// How many bytes their stored keys and data may take together, at most 2^30.
+    pub bytes: u64,
+}
