@@ -11,6 +11,7 @@ ghost use Rattle.uq_journal.specs.Calls.{HoldsRecovered, KeepsMainWhereClosed, K
 ghost use Rattle.uq_journal.specs.Journals.{originals_kept};
 ghost use Rattle.uq_pager.specs.Changes.{batch_of};
 ghost use Rattle.uq_pager.specs.Opening.{IsNoDatabase, RecoversToCount, RestsAt};
+ghost use Rattle.uq_pager.specs.Paged.{pages_on};
 ghost use Rattle.uq_pager.specs.declared.error.PagerFault.{PagerFault};
 
 use crate::changes::Changes;
@@ -53,6 +54,7 @@ pub fn recover<D: Disk>(alloc: Global, disk: &mut D, cache: u32) -> Result<Ready
     ensures ready { IfOk result (λ ready. RestsAt D.Disk disk.new ready.saved) }
     ensures main { OnOk result (HoldsRecovered D.Disk disk.old disk.new) }
     ensures pages { IfOk result (λ ready. ForSome (D.content disk.old) (RecoversToCount ready.saved)) }
+    ensures told { OnOk result (ForSome (D.content disk.old) (λ start. pages_on D.Disk disk.new ≡ recovered_pages start)) }
     ensures cache { IfOk result (λ ready. ready.clean.cap ≡ cache) }
     ensures not_database { AtErr PagerFault.NotDatabase result (ForSome (D.content disk.old) IsNoDatabase) }
     ensures alike { ToldAlike (D.content disk.old) (D.content disk.new) }
@@ -91,7 +93,6 @@ impl Ready {
     ghost use Rattle.std.specs.Prelude.{OnErr, Err, slice_get};
     ghost use Rattle.uq_page.specs.Page.{bytes_of};
     ghost use Rattle.uq_journal.specs.Calls.{IsStill};
-    ghost use Rattle.uq_pager.specs.Paged.{pages_on};
     ghost use Rattle.uq_pager.specs.Ready.{RestsReady};
 
     /// How many pages there are.
@@ -129,7 +130,6 @@ impl Ready {
 
 impl<'d, D: Disk> Pager<'d, D> {
     ghost use Rattle.uq_pager.specs.Opening.{just_opened};
-    ghost use Rattle.uq_pager.specs.Paged.{pages_on};
     ghost use Rattle.uq_pager.specs.Pager.{IsSound, cache_of, held_numbers, paged};
 
     /// A pager over a disk that was just recovered. It makes no call of the disk.

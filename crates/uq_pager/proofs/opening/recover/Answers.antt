@@ -1,4 +1,6 @@
-use Rattle.uq_pager.proofs.Openings.{main_still, recovers_to, recovers_to_none, rests_at}
+use Rattle.std.proofs.Common.{sym, subst}
+use Rattle.uq_outside.specs.Stops.{ToldAlike}
+use Rattle.uq_pager.proofs.Openings.{main_still, recovered_here, recovers_to, recovers_to_none, rests_at}
 use Rattle.uq_pager.proofs.opening.recover.Goals as goal
 
 pub returns-in-Some-whole_pages-clause-ready : goal.returns-in-Some-whole_pages-clause-ready
@@ -18,3 +20,9 @@ pub returns-in-None-clause-not_database : goal.returns-in-None-clause-not_databa
 returns-in-None-clause-not_database g c = λ _.
     recovers_to_none g.D.Disk c.args.disk.now c.open.new.disk c.length.new.self c.in-Ok-length.ensures.same c.in-Ok-length.len
     c.in-Ok-open.ensures.alike c.in-Ok-open.ensures.main c.in-Ok-length.ensures.told c.in-None.ensures
+
+pub returns-in-Some-whole_pages-clause-told : goal.returns-in-Some-whole_pages-clause-told
+returns-in-Some-whole_pages-clause-told g c =
+    recovered_here g.D.Disk c.args.disk.now c.length.new.self
+    (subst (λ o. ToldAlike (g.D.Disk.content c.args.disk.now) o) (sym c.in-Ok-length.ensures.same) c.in-Ok-open.ensures.alike)
+    (main_still g.D.Disk c.args.disk.now c.open.new.disk c.length.new.self c.in-Ok-length.ensures.same c.in-Ok-open.ensures.main)

@@ -1,0 +1,7 @@
+use Rattle.std.proofs.Common.{sym, subst}
+use Rattle.uq_kv.specs.Holds.{LeavesNow}
+use Rattle.uq_kv.proofs.Stops.{saved_now}
+use Rattle.uq_kv.proofs.kv.Kv.into_disk.Goals as goal
+
+pub returns-clause-saved : goal.returns-clause-saved
+returns-clause-saved g c = λ s tells. subst (λ d. LeavesNow g.D.Disk d s.saved) (sym c.into_disk.ensures.disk) (saved_now g.D.Disk c.args.self s tells)

@@ -1,0 +1,69 @@
+use Rattle.std.proofs.Common.{◌≡◌, length, refl, rules, sym, ap, subst, arith, ◌∙◌}
+use Rattle.std.specs.FinMap.{insert}
+use Rattle.std.proofs.lemmas.Result.{err_from_is_err_and}
+use Rattle.uq_kv.specs.Stored.{stored_key}
+use Rattle.uq_kv.specs.Writing.{AreDatabase, IsBefore}
+use Rattle.uq_kv.proofs.Databases.{cause_behind, handed_on, kept, no_some, within}
+use Rattle.uq_kv.proofs.Sums.{has_room, too_much_is}
+use Rattle.uq_kv.proofs.writing.write.Goals as goal
+
+pub returns-in_err-before-clause-cause : goal.returns-in_err-before-clause-cause
+returns-in_err-before-clause-cause g c =
+    let p = err_from_is_err_and c.from_residual.result c.from_residual.ensures.1 in
+    let one = p.1 in
+    let two = p.2 in
+    handed_on c.examine.result c.from_residual.result c.in_err-before.field-0.0 c.in_err-before.was (cc) (g.P.Pages.pages c.args.p.now) c.args.header.now _ _ _ c.examine.ensures.cause
+
+pub returns-in_default-totals_after-clause-cause : goal.returns-in_default-totals_after-clause-cause
+returns-in_default-totals_after-clause-cause g c = record {
+  pages = record {
+    later = c.in_ok-before.ensures.cause.pages.later;
+    failed = λ is. absurd (cc);
+    quiet = λ _. c.in_ok-before.ensures.cause.pages.quiet (λ is. cc);
+    ended = λ is. absurd (cc);
+    sound = λ _. c.in_ok-before.ensures.cause.pages.sound (λ is. cc);
+  };
+  corrupt = λ _ pages on stored database.
+      let before = c.in_ok-before.ensures.before pages on stored (kept c.args.header.now stored pages database) in
+      no_some c.totals_after.result (c.totals_after.ensures.some stored c.deref.result.now (within c.args.header.now stored pages database) before) c.in_default-totals_after.not-Some;
+  no_page = λ is. absurd (cc);
+}
+
+pub returns-then-is_over-clause-puts : goal.returns-then-is_over-clause-puts
+returns-then-is_over-clause-puts g c = λ pages on stored database.
+    let stored_as : c.deref.result.now ≡ stored_key c.args.space c.args.key.now = c.deref.ensures.value ∙ c.in-Ok.ensures in
+    let long : c.len.result ≡ length c.in-Ok.stored.items = search rules in
+    let before = subst (λ k. IsBefore stored k c.in_ok-before.before) stored_as (c.in_ok-before.ensures.before pages on stored (kept c.args.header.now stored pages database)) in
+    let after = c.in-Some.ensures.after stored (stored_key c.args.space c.args.key.now) c.args.value.now (long ∙ ap length c.in-Ok.ensures) refl before in
+    too_much_is c.args.limits.now c.args.space c.args.key.now c.args.value.now stored c.in_ok-before.before c.in-Some.after c.requires.key c.requires.value before after
+    ∙ sym c.is_over.ensures ∙ c.if-is_over.true
+
+pub put_entry-requires-clause-room : goal.put_entry-requires-clause-room
+put_entry-requires-clause-room g c = λ pages on stored keeps.
+    let same_key : c.deref.result.now ≡ c.deref-2.result.now = c.deref.ensures.value ∙ sym c.deref-2.ensures.value in
+    let long : c.len.result ≡ length c.in-Ok.stored.items = search rules in
+    let before = subst (λ k. IsBefore stored k c.in_ok-before.before) same_key (c.in_ok-before.ensures.before pages (sym (c.in_ok-before.ensures.same (λ is. cc)) ∙ on) stored keeps) in
+    let after = c.in-Some.ensures.after stored c.deref-2.result.now c.args.value.now (long ∙ ap length (sym c.deref-2.ensures.value)) refl before in
+    has_room c.args.limits.now c.in_ok-before.before c.in-Some.after stored c.deref-2.result.now c.args.value.now (sym c.is_over.ensures ∙ c.if-is_over.false) after
+
+pub returns-in_err-header-clause-cause : goal.returns-in_err-header-clause-cause
+returns-in_err-header-clause-cause g c =
+    let p = err_from_is_err_and c.from_residual-in_err-header.result c.from_residual-in_err-header.ensures.1 in
+    let one = p.1 in
+    let two = p.2 in
+    handed_on c.put_entry.result c.from_residual-in_err-header.result c.in_err-header.field-0.0 c.in_err-header.was (cc) (g.P.Pages.pages c.args.p.now) c.args.header.now _ _ _
+    (cause_behind c.put_entry.result (g.P.Pages.pages c.args.p.now) (g.P.Pages.pages c.examine.new.p) c.args.header.now _ _ _ _
+    (c.in_ok-before.ensures.same (λ is. cc)) (c.in_ok-before.ensures.cause.pages.quiet (λ is. cc)) c.put_entry.ensures.cause)
+
+pub returns-clause-puts : goal.returns-clause-puts
+returns-clause-puts g c = λ pages on stored database.
+    let stored_as : c.deref.result.now ≡ stored_key c.args.space c.args.key.now = c.deref.ensures.value ∙ c.in-Ok.ensures in
+    let stored_again : c.deref-2.result.now ≡ stored_key c.args.space c.args.key.now = c.deref-2.ensures.value ∙ c.in-Ok.ensures in
+    let long : c.len.result ≡ length c.in-Ok.stored.items = search rules in
+    let before = subst (λ k. IsBefore stored k c.in_ok-before.before) stored_as (c.in_ok-before.ensures.before pages on stored (kept c.args.header.now stored pages database)) in
+    let after = c.in-Some.ensures.after stored (stored_key c.args.space c.args.key.now) c.args.value.now (long ∙ ap length c.in-Ok.ensures) refl before in (
+      too_much_is c.args.limits.now c.args.space c.args.key.now c.args.value.now stored c.in_ok-before.before c.in-Some.after c.requires.key c.requires.value before after
+          ∙ sym c.is_over.ensures ∙ c.if-is_over.false,
+      subst (λ k. AreDatabase (g.P.Pages.pages c.put_entry.new.p) c.in_ok-header.field-0 (insert stored k c.args.value.now)) stored_again
+          (c.in_ok-header.ensures.put pages (c.in_ok-before.ensures.same (λ is. cc) ∙ on) stored database),
+    )

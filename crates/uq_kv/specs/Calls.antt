@@ -1,0 +1,97 @@
+-- What each call answers over a session, and what it leaves of the session.
+use Rattle.std.specs.Prelude.{◌≡◌, ◌⊎◌, ℕ, Bool, true, false, not, nat_lt, if◌then◌else◌, List, [], ◌∷◌, length, Option, Some, None, Result, Ok, Err, IfErr}
+use Rattle.std.specs.FinMap.{get, insert}
+use Rattle.uq_page.specs.declared.error.ChainFault.{ChainFault}
+use Rattle.uq_page.specs.declared.error.ChainFault.TheVariants as chain
+use Rattle.uq_model.specs.Session.{Call, with_present}
+use Rattle.uq_model.specs.declared.cause.Cause.{Cause}
+use Rattle.uq_model.specs.declared.cause.Cause.TheVariants as cause
+use Rattle.uq_model.specs.declared.limits.Limits.{Limits}
+use Rattle.uq_kv.specs.declared.error.KvFault.{KvFault}
+use Rattle.uq_kv.specs.declared.error.KvFault.TheVariants.{EmptyKey, KeyTooLong, ValueTooLong, Full, NotFound, NoEntry, Disk, Corrupt, Closed, Memory}
+use Rattle.uq_kv.specs.declared.limits.TheConstants.{MOST_KEY}
+use Rattle.uq_kv.specs.declared.space.Space.{Space}
+use Rattle.uq_kv.specs.Full.{is_too_much}
+use Rattle.uq_kv.specs.Stored.{Stored, stored_key}
+
+-- ---- each call, as a function of the session
+
+-- `EmptyKey`, then `Full`; else the entry is there, and a transaction is begun
+abbrev pub stores : Limits → Space → List ℕ → List ℕ → Call Stored (Result (Unit {0}) KvFault)
+stores limits space [] value s = (Err EmptyKey, s)
+stores limits space (byte ∷ bytes) value s =
+    if is_too_much limits space (byte ∷ bytes) value s.present then (Err Full, s)
+    else (Ok tt, with_present (insert s.present (stored_key space (byte ∷ bytes)) value) s)
+
+abbrev pub found : Option (List ℕ) → Result (List ℕ) KvFault
+found None = Err NotFound
+found (Some data_found) = Ok data_found
+
+-- the data of a key; no key is longer than the longest
+abbrev pub data_at : Space → List ℕ → Stored → Option (List ℕ)
+data_at space key stored = if nat_lt MOST_KEY (length key) then None else get stored (stored_key space key)
+
+-- `EmptyKey`, then `NotFound`
+abbrev pub fetches : Space → List ℕ → Call Stored (Result (List ℕ) KvFault)
+fetches space [] s = (Err EmptyKey, s)
+fetches space (byte ∷ bytes) s = (found (data_at space (byte ∷ bytes) s.present), s)
+
+-- a call that has no refusal
+abbrev pub succeeds : {T : Type 0} → Call Stored T → Call Stored (Result T KvFault)
+succeeds call s = (Ok (call s).0, (call s).1)
+
+-- ---- answers
+
+-- the faults of what lies below, which close the store, and that of a closed one
+abbrev pub is_stop : KvFault → Bool
+is_stop EmptyKey = false
+is_stop KeyTooLong = false
+is_stop ValueTooLong = false
+is_stop Full = false
+is_stop NotFound = false
+is_stop NoEntry = false
+is_stop Disk = true
+is_stop Corrupt = true
+is_stop (Closed first) = true
+is_stop Memory = true
+
+-- Ok, or a refusal by the call's own rules
+abbrev pub is_answered : {T : Type 0} → Result T KvFault → Bool
+is_answered (Ok value) = true
+is_answered (Err fault) = not (is_stop fault)
+
+-- an answer, with its value as a definition has it
+abbrev pub seen_by : {T U : Type 0} → (T → U) → Result T KvFault → Result U KvFault
+seen_by view (Ok value) = Ok (view value)
+seen_by view (Err fault) = Err fault
+
+-- the fault is among these, or that of a closed store
+abbrev pub IsAmong : List KvFault → KvFault → Type 0
+IsAmong [] fault = (first : Cause) × (fault ≡ Closed first)
+IsAmong (other ∷ others) fault = (fault ≡ other) ⊎ IsAmong others fault
+
+-- a call that answers no other faults
+abbrev pub FailsBy : {T : Type 0} → List KvFault → Result T KvFault → Type 0
+FailsBy faults result = IfErr result (IsAmong faults)
+
+-- by what a store is closed after a call: by what it was before, or else by the call's answer
+abbrev pub closed_by : {T : Type 0} → Result T KvFault → Option Cause → Option Cause
+closed_by result (Some first) = Some first
+closed_by (Err Disk) None = Some cause.Disk
+closed_by (Err Corrupt) None = Some cause.Corrupt
+closed_by (Err Memory) None = Some cause.Memory
+closed_by result None = None
+
+-- ---- a fault of a call on the pages, as an answer and as a cause
+
+abbrev pub stop_of : ChainFault → KvFault
+stop_of chain.Failed = Disk
+stop_of chain.Corrupt = Corrupt
+stop_of chain.NoPage = Corrupt
+stop_of chain.Memory = Memory
+
+abbrev pub cause_of : ChainFault → Cause
+cause_of chain.Failed = cause.Disk
+cause_of chain.Corrupt = cause.Corrupt
+cause_of chain.NoPage = cause.Corrupt
+cause_of chain.Memory = cause.Memory

@@ -1,0 +1,9 @@
+pub mod Calls
+pub mod Database
+pub mod Faults
+pub mod Full
+pub mod Holds
+pub mod Kv
+pub mod Opening
+pub mod Stored
+pub mod Writing

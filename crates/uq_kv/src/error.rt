@@ -1,0 +1,82 @@
+//! Why a call of a store was refused.
+ghost use Rattle.std.specs.Prelude.{◌≡◌};
+ghost use Rattle.uq_kv.specs.Faults.{open_fault};
+
+use thiserror::Error;
+use uq_model::Cause;
+use uq_pager::PagerFault;
+
+/// Why a call of a store was refused.
+///
+/// The first six are refusals by the call's own rules, and change nothing. `Disk`, `Corrupt` and `Memory` close the
+/// store: every later call answers `Closed` with the first of them.
+#[derive(Clone, Copy, Debug, PartialEq, Eq, Error)]
+pub enum KvFault {
+    /// The key has no byte.
+    #[error("empty key")]
+    EmptyKey,
+
+    /// The key has more than 1,024 bytes.
+    #[error("key too long")]
+    KeyTooLong,
+
+    /// The data would have more bytes than data may have.
+    #[error("value too long")]
+    ValueTooLong,
+
+    /// The write makes entries or bytes greater than before and greater than their limit, or has no room.
+    #[error("full")]
+    Full,
+
+    /// The key is not there.
+    #[error("not found")]
+    NotFound,
+
+    /// There is no such entry.
+    #[error("no entry")]
+    NoEntry,
+
+    /// A call of the disk failed. After a commit the disk may hold what was saved or what was there.
+    #[error("the disk failed")]
+    Disk,
+
+    /// The files are no database.
+    #[error("not a database")]
+    Corrupt,
+
+    /// The store was closed before, by this cause.
+    #[error("closed")]
+    Closed { first: Cause },
+
+    /// There was no memory.
+    #[error("out of memory")]
+    Memory,
+}
+
+/// Why files could not be opened.
+#[derive(Clone, Copy, Debug, PartialEq, Eq, Error)]
+pub enum OpenFault {
+    /// A call of the disk failed.
+    #[error("the disk failed")]
+    Disk,
+
+    /// The files recover to no database.
+    #[error("not a database")]
+    NotDatabase,
+
+    /// There was no memory.
+    #[error("out of memory")]
+    Memory,
+}
+
+impl From<PagerFault> for OpenFault {
+    ghost from_gives = { λ fault gives. gives ≡ open_fault fault };
+
+    fn from(fault: PagerFault) -> OpenFault {
+        match fault {
+            PagerFault::Disk => OpenFault::Disk,
+            PagerFault::NotDatabase => OpenFault::NotDatabase,
+            PagerFault::Memory => OpenFault::Memory,
+        }
+    }
+}

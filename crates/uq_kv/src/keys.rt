@@ -1,0 +1,84 @@
+//! Keys are stored and fetched.
+use crate::closing::close_by;
+use crate::writing::{Put, look_up, write};
+use crate::{Kv, KvFault, MOST_KEY, Space};
+use std::alloc::Global;
+use uq_outside::Disk;
+use uq_page::MOST_INLINE;
+
+impl<'d, D: Disk> Kv<'d, D> {
+    ghost use Rattle.std.specs.Prelude.{◌≡◌, ◌↔◌, [], ◌∷◌, None, true, Err, OnOk};
+    ghost use Rattle.uq_kv.specs.Calls.{FailsBy, fetches, stores};
+    ghost use Rattle.uq_kv.specs.Kv.{Does, HasCauses, KeepsKv, LeavesSaved, Reads, closed_of, is_begun_of, limits_of};
+
+    /// Stores data under a key, in place of what was there, and begins a transaction where none is begun.
+    ///
+    /// Refusals, in this order: `EmptyKey`; `Full`, where the key is longer than 1,024 bytes or the data than 255, where
+    /// the entries that there are then have no room in one page, or where the write makes entries or bytes greater than
+    /// before and greater than their limit.
+    pub fn store(
+        &mut self,
+        alloc: Global,
+        space: Space,
+        key: &[u8],
+        value: &[u8],
+    ) -> Result<(), KvFault>
+        ensures does { Does D.Disk (λ done. done) (stores (limits_of D.Disk self.old) space key.now value.now) self.old self.new result }
+        ensures empty { closed_of D.Disk self.old ≡ None → (result ≡ Err KvFault.EmptyKey) ↔ (key.now ≡ []) }
+        ensures faults { FailsBy (KvFault.EmptyKey ∷ KvFault.Full ∷ KvFault.Disk ∷ KvFault.Corrupt ∷ KvFault.Memory ∷ []) result }
+        ensures begun { OnOk result (is_begun_of D.Disk self.new ≡ true) }
+        ensures stop { LeavesSaved D.Disk self.old self.new }
+        ensures keeps { KeepsKv D.Disk self.old self.new }
+        ensures cause { HasCauses D.Disk self.old self.new result }
+    {
+        self.check_open()?;
+        if key.is_empty() {
+            return Err(KvFault::EmptyKey);
+        }
+        if key.len() > MOST_KEY || value.len() > MOST_INLINE {
+            return Err(KvFault::Full);
+        }
+        match write(
+            alloc,
+            &mut self.pager,
+            &mut self.header,
+            &self.limits,
+            space,
+            key,
+            value,
+        ) {
+            Ok(Put::Done) => {
+                self.pager.begin();
+                Ok(())
+            }
+            Ok(Put::Full) => Err(KvFault::Full),
+            Err(fault) => Err(close_by(&mut self.closed, fault)),
+        }
+    }
+
+    /// The data of a key.
+    ///
+    /// Refusals, in this order: `EmptyKey`, `NotFound`. No key of more than 1,024 bytes is there.
+    pub fn fetch(&mut self, alloc: Global, space: Space, key: &[u8]) -> Result<Vec<u8>, KvFault>
+        ensures does { Does D.Disk (λ data_found. data_found.items) (fetches space key.now) self.old self.new result }
+        ensures empty { closed_of D.Disk self.old ≡ None → (result ≡ Err KvFault.EmptyKey) ↔ (key.now ≡ []) }
+        ensures faults { FailsBy (KvFault.EmptyKey ∷ KvFault.NotFound ∷ KvFault.Disk ∷ KvFault.Corrupt ∷ KvFault.Memory ∷ []) result }
+        ensures reads { Reads D.Disk self.old self.new }
+        ensures stop { LeavesSaved D.Disk self.old self.new }
+        ensures keeps { KeepsKv D.Disk self.old self.new }
+        ensures cause { HasCauses D.Disk self.old self.new result }
+    {
+        self.check_open()?;
+        if key.is_empty() {
+            return Err(KvFault::EmptyKey);
+        }
+        if key.len() > MOST_KEY {
+            return Err(KvFault::NotFound);
+        }
+        match look_up(alloc, &mut self.pager, &self.header, space, key) {
+            Ok(Some(found)) => Ok(found),
+            Ok(None) => Err(KvFault::NotFound),
+            Err(fault) => Err(close_by(&mut self.closed, fault)),
+        }
+    }
+}

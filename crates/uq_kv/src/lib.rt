@@ -1,0 +1,20 @@
+//! Keys with their data over a disk, with one transaction at a time.
+#![tactic(auto)]
+
+mod closing;
+mod error;
+mod keys;
+mod kv;
+mod limits;
+mod opening;
+mod recovering;
+mod space;
+mod transaction;
+mod writing;
+
+pub use error::{KvFault, OpenFault};
+pub use kv::Kv;
+pub use limits::MOST_KEY;
+pub use opening::Ready;
+pub use recovering::recover;
+pub use space::Space;
