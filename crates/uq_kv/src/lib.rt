@@ -9,6 +9,8 @@ mod limits;
 mod opening;
 mod recovering;
 mod space;
+#[cfg(test)]
+mod tests;
 mod transaction;
 mod writing;
 
