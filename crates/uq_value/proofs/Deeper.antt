@@ -8,7 +8,7 @@ use Rattle.uq_value.specs.Put.{Put, Key, nth, named, then_put, key, child, with_
 use Rattle.uq_value.specs.declared.value.Value.{Value}
 use Rattle.uq_value.specs.declared.step.Step.{Step}
 use Rattle.uq_value.proofs.Levels.{plain-value_of}
-use Rattle.uq_value.proofs.Level.{ok_inj}
+use Rattle.uq_value.specs.Laws.Limits.{ok_one}
 
 -- the depth of a whole once a part of it is d deep
 pub record Between (before d after : ℕ) : Type 0 where
@@ -93,7 +93,7 @@ child-depth (named name) (Value.List ds) = omega arith
 -- ---- a whole write
 
 then_gives : (r : Put Value) (f : Value → Value) (v : Value) → ◌≡◌ {A = Put Value} (then_put r (λ w. Ok (f w))) (Ok v) → (w : Value) × (◌≡◌ {A = Put Value} r (Ok w)) × (f w ≡ v)
-then_gives (Ok w) f v p = (w, refl, ok_inj (f w) v p)
+then_gives (Ok w) f v p = (w, refl, ok_one (f w) v p)
 then_gives (Err e) f v p = absurd (cc)
 
 key_gives : (r : Put Key) (f : Key → Put Value) (v : Value) → ◌≡◌ {A = Put Value} (then_put r f) (Ok v) → (k : Key) × (f k ≡ Ok v)
@@ -101,7 +101,7 @@ key_gives (Ok k) f v p = (k, p)
 key_gives (Err e) f v p = absurd (cc)
 
 pub put_within-depth : (steps : List Step) (new v w : Value) → put_within steps new v ≡ Ok w → Between (depth v) (length steps + depth new) (depth w)
-put_within-depth [] new v w p = let e : new ≡ w = ok_inj new w p in record { least = omega (arith, ap (λ x. depth x) e); most = omega (arith, ap (λ x. depth x) e) }
+put_within-depth [] new v w p = let e : new ≡ w = ok_one new w p in record { least = omega (arith, ap (λ x. depth x) e); most = omega (arith, ap (λ x. depth x) e) }
 put_within-depth (s ∷ ss) new v w p =
     let a : (k : Key) × (at_child k (put_within ss new) v ≡ Ok w) = key_gives (key s v) (λ k. at_child k (put_within ss new) v) w p in
     let b : (u : Value) × (put_within ss new (child a.0 v) ≡ Ok u) × (with_child a.0 u v ≡ w) = then_gives (put_within ss new (child a.0 v)) (λ u. with_child a.0 u v) w a.1 in

@@ -8,15 +8,8 @@ use Rattle.uq_value.specs.declared.value.Value.{Value}
 use Rattle.uq_value.specs.declared.step.Step.{Step}
 use Rattle.uq_value.specs.declared.error.ValueFault.{ValueFault}
 use Rattle.uq_value.specs.declared.error.ValueFault.TheVariants.{NotContainer, IndexRange, TooDeep, TooLarge, Memory}
+use Rattle.uq_value.specs.Laws.Limits.{ok_one}
 use Rattle.uq_value.proofs.Wholes.{some-size}
-
-value_or : Value → Put Value → Value
-value_or v (Ok w) = w
-value_or v (Err e) = v
-
-pub ok_inj : (x y : Value) → ◌≡◌ {A = Put Value} (Ok x) (Ok y) → x ≡ y
-unfolding value_or
-ok_inj x y p = ap (λ r. value_or x r) p
 
 same-test : (room base s t : ℕ) → 1 ≤ s → t ≡ base + s → nat_lt room t ≡ nat_lt (room - base) s
 same-test room base s t h e = grind arith
@@ -58,7 +51,7 @@ pub record Within (room : ℕ) (r : Put Value) (w : Value) : Type 0 where
 
 fits-ok : (room : ℕ) (u w : Value) (b : Bool) → nat_lt room (size u) ≡ b → ◌≡◌ {A = Put Value} (if b then Err TooLarge else Ok u) (Ok w) → (u ≡ w) × (size u ≤ room)
 fits-ok room u w true e p = cc
-fits-ok room u w false e p = (ok_inj u w p, grind arith)
+fits-ok room u w false e p = (ok_one u w p, grind arith)
 
 pub within_room : (room : ℕ) (r : Put Value) (w : Value) → then_put r (fits room) ≡ Ok w → Within room r w
 within_room room (Ok u) w p =

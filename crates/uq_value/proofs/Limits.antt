@@ -8,6 +8,7 @@ use Rattle.uq_value.specs.Put.{Put, limited}
 use Rattle.uq_value.specs.Internal.Writing.{PushFits, size_beside_next}
 use Rattle.uq_value.specs.declared.value.Value.{Value}
 use Rattle.uq_value.specs.declared.error.ValueFault.TheVariants.{TooDeep, TooLarge}
+use Rattle.uq_value.specs.Laws.Limits.{bounded}
 use Rattle.uq_value.proofs.Wholes.{list-size-push, list-depth-push}
 
 abbrev pub ok : Value → Put Value
@@ -18,9 +19,6 @@ above a b h = grind arith
 
 pub not_above : (a b : ℕ) → b ≤ a → nat_lt a b ≡ false
 not_above a b h = grind arith
-
-abbrev pub bounded : Bool → Bool → Value → Put Value
-bounded deep large w = if deep then Err TooDeep else (if large then Err TooLarge else Ok w)
 
 pub too_deep : (w : Value) → most_depth < depth w → limited w ≡ Err TooDeep
 too_deep w h = ap (λ b. bounded b (nat_lt most_size (size w)) w) (above most_depth (depth w) h)

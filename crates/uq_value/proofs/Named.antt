@@ -6,10 +6,6 @@ use Rattle.uq_value.specs.Reading.{find}
 use Rattle.uq_value.specs.Put.{with_member}
 use Rattle.uq_value.specs.Places.{place_of}
 
-pub length-names_of : (ms : Pairs) → length (names_of ms) ≡ length ms
-length-names_of [] = refl
-length-names_of (m ∷ ms) = omega (arith, length-names_of ms)
-
 pub place_of-le : (name : Bytes) (ns : List Bytes) → place_of name ns ≤ length ns
 place_of-le name [] = omega arith
 place_of-le name (n ∷ ns) =

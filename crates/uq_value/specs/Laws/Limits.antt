@@ -9,7 +9,7 @@ use Rattle.uq_value.specs.declared.value.Value.{Value}
 use Rattle.uq_value.specs.declared.error.ValueFault.{ValueFault}
 use Rattle.uq_value.specs.declared.error.ValueFault.TheVariants.{NotContainer, IndexRange, TooDeep, TooLarge, Memory}
 
-abbrev bounded : Bool → Bool → Value → Put Value
+abbrev pub bounded : Bool → Bool → Value → Put Value
 bounded deep large v = if deep then Err TooDeep else (if large then Err TooLarge else Ok v)
 
 -- the three cases, each with its bounds
@@ -30,7 +30,7 @@ value_or : Value → Put Value → Value
 value_or v (Ok w) = w
 value_or v (Err e) = v
 
-ok_one : (v w : Value) → ◌≡◌ {A = Put Value} (Ok v) (Ok w) → v ≡ w
+pub ok_one : (v w : Value) → ◌≡◌ {A = Put Value} (Ok v) (Ok w) → v ≡ w
 unfolding value_or
 ok_one v w p = ap (λ r. value_or v r) p
 
