@@ -47,11 +47,18 @@ fn above_the_streams(file: File) -> io::Result<File> {
     Ok(file)
 }
 
-// Gives a file the owner, the group and the permissions of another one.
+// Gives a file the group and the permissions of another one, and its owner where the system lets: only a superuser gives
+// files away, and whoever shares the group reads and writes it all the same.
 pub(crate) fn liken(file: &File, other: &File) -> io::Result<()> {
     let (is, wanted) = (file.metadata()?, other.metadata()?);
-    if (is.uid(), is.gid()) != (wanted.uid(), wanted.gid()) {
-        fchown(file, Some(wanted.uid()), Some(wanted.gid()))?;
+    if is.gid() != wanted.gid() {
+        fchown(file, None, Some(wanted.gid()))?;
+    }
+    if is.uid() != wanted.uid() {
+        match fchown(file, Some(wanted.uid()), None) {
+            Err(error) if error.kind() != io::ErrorKind::PermissionDenied => return Err(error),
+            _ => {}
+        }
     }
     if is.permissions() != wanted.permissions() {
         file.set_permissions(wanted.permissions())?;
@@ -59,7 +66,7 @@ pub(crate) fn liken(file: &File, other: &File) -> io::Result<()> {
     Ok(())
 }
 
-// A file that was made stays after a stop only once its folder is on the disk.
+// Settles which files there are in the folder of this one.
 pub(crate) fn sync_folder<R: Files<File = File>>(rt: &R, path: Path<'_>) -> io::Result<()> {
     match path.parent() {
         Some(folder) => File::open(rt, folder)?.sync_all(),
