@@ -12,3 +12,4 @@ mod Cutting
 mod Undoing
 mod Emptying
 mod MainKept
+mod AtGate

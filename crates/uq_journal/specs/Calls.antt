@@ -1,7 +1,10 @@
 -- What the calls of a journal promise of the disk.
-use Rattle.std.specs.Prelude.{◌≡◌, ◌⊎◌, ℕ, ◌<◌, List, [], ◌∷◌, length, take, slice_index, Option, Some, None}
+use Rattle.std.specs.Prelude.{◌≡◌, ◌⊎◌, ℕ, ◌<◌, Bool, true, false, List, [], ◌∷◌, length, take, slice_index, Option, Some, None, Result, IfErr}
 use Rattle.std.specs.Option.{ForSome, option_and_then}
 use Rattle.uq_outside.specs.declared.disk.Disk.{Ghosts}
+use Rattle.uq_outside.specs.declared.fault.DiskCall.{DiskCall}
+use Rattle.uq_outside.specs.declared.fault.DiskCall.TheVariants.{Attach, Length, Read, Write, Cut, Sync}
+use Rattle.uq_outside.specs.declared.fault.DiskFault.{DiskFault}
 use Rattle.uq_outside.specs.declared.fault.FileNo.TheVariants.{Main}
 use Rattle.uq_outside.specs.Files.{Files, Keeps}
 use Rattle.uq_outside.specs.Since.{IsSettled, LeavesOnly, Steps}
@@ -53,6 +56,32 @@ IsClosed journal = 1 < length journal → slice_index journal 0 ≡ OPEN → ⊥
 -- before. A write leaves others too, also one of the bytes that are there.
 abbrev pub KeepsMainWhereClosed : {D : Type 0} → Ghosts D → D → D → Type 0
 KeepsMainWhereClosed g old new = ForSome (g.content old) (λ start. IsClosed start.journal → Steps g (Keeps Main) old new)
+
+-- Where the journal is one closed gate, neither file is changed.
+abbrev pub KeepsFilesAtGate : {D : Type 0} → Ghosts D → D → D → Type 0
+KeepsFilesAtGate g old new = ForSome (g.content old) (λ start. start.journal ≡ CLOSED ∷ [] → Steps g Stays old new)
+
+-- the calls of the disk that a commit makes
+abbrev pub is_commit_call : DiskCall → Bool
+is_commit_call Attach = false
+is_commit_call Length = false
+is_commit_call Read = true
+is_commit_call Write = true
+is_commit_call Cut = false
+is_commit_call Sync = true
+
+-- the calls of the disk that an opening makes
+abbrev pub is_open_call : DiskCall → Bool
+is_open_call Attach = false
+is_open_call Length = true
+is_open_call Read = true
+is_open_call Write = true
+is_open_call Cut = true
+is_open_call Sync = true
+
+-- a fault names one of these calls
+abbrev pub Names : {T : Type 0} → (DiskCall → Bool) → Result T DiskFault → Type 0
+Names calls result = IfErr result (λ fault. calls fault.call ≡ true)
 
 -- the main file has so many whole pages
 abbrev pub HasPages : ℕ → Files → Type 0

@@ -4,7 +4,7 @@ ghost use Rattle.std.specs.Option.{ForSome};
 ghost use Rattle.uq_facts.specs.Causes.{HasCause};
 ghost use Rattle.uq_outside.specs.Stops.{ToldAlike};
 ghost use Rattle.uq_page.specs.declared.layout.TheConstants.{PAGE_SIZE};
-ghost use Rattle.uq_journal.specs.Calls.{Rests};
+ghost use Rattle.uq_journal.specs.Calls.{Rests, Names, is_commit_call};
 ghost use Rattle.uq_journal.specs.Recovered.{Ascends, numbers};
 ghost use Rattle.uq_journal.specs.Steps.{LeavesOldOrNew, WritesBatch};
 
@@ -28,6 +28,7 @@ pub(crate) fn write_batch<D: Disk>(
     ensures written { OnOk result (WritesBatch D.Disk dirty.now disk.old disk.new) }
     ensures alike { ToldAlike (D.content disk.old) (D.content disk.new) }
     ensures stop { LeavesOldOrNew D.Disk dirty.now disk.old disk.new }
+    ensures kind { Names is_commit_call result }
     ensures cause { HasCause (D.faults disk.old) (D.faults disk.new) result }
 {
     stage_batch(disk, old_pages, dirty)?;

@@ -1,11 +1,13 @@
 //! The calls of a journal.
-ghost use Rattle.std.specs.Prelude.{◌≡◌, IfOk, OnOk};
+ghost use Rattle.std.specs.Prelude.{◌≡◌, true, Err, IfOk, OnOk};
 ghost use Rattle.std.specs.Option.{ForSome};
 ghost use Rattle.uq_facts.specs.Causes.{AtErr, HasCause};
+ghost use Rattle.uq_outside.specs.declared.fault.DiskFault.{DiskFault};
 ghost use Rattle.uq_outside.specs.Stops.{ToldAlike};
 ghost use Rattle.uq_journal.specs.declared.error.JournalFault.{JournalFault};
 ghost use Rattle.uq_journal.specs.Calls.{HasPages, HoldsRecovered, IsStill, Rests, WritesPages};
-ghost use Rattle.uq_journal.specs.Calls.{KeepsMainWhereClosed, KeepsRecovered, LeavesOldPagesOrNew, RecoversToNothing};
+ghost use Rattle.uq_journal.specs.Calls.{KeepsFilesAtGate, KeepsMainWhereClosed, KeepsRecovered, LeavesOldPagesOrNew};
+ghost use Rattle.uq_journal.specs.Calls.{Names, RecoversToNothing, is_commit_call, is_open_call};
 ghost use Rattle.uq_journal.specs.Journals.{HasJournalCause, originals_kept};
 ghost use Rattle.uq_journal.specs.Recovered.{Ascends, changes, numbers};
 
@@ -24,8 +26,8 @@ pub struct Journal {
 impl Journal {
     /// Recovers the files from what a stop left, and leaves a journal of one closed gate.
     ///
-    /// It syncs both files first. Where the first gate is closed it writes nothing to the main file. Files that recover
-    /// to nothing it leaves as they were.
+    /// It syncs both files first. Where the first gate is closed it writes nothing to the main file, and where that
+    /// gate is all of the journal nothing at all. Files that recover to nothing it leaves as they were.
     pub fn open<D: Disk>(disk: &mut D) -> Result<Journal, JournalFault>
         ensures rest { OnOk result (Rests D.Disk disk.new) }
         ensures main { OnOk result (HoldsRecovered D.Disk disk.old disk.new) }
@@ -34,7 +36,9 @@ impl Journal {
         ensures refused { AtErr JournalFault.NotJournal result (IsStill D.Disk disk.old disk.new) }
         ensures alike { ToldAlike (D.content disk.old) (D.content disk.new) }
         ensures closed { KeepsMainWhereClosed D.Disk disk.old disk.new }
+        ensures gate { KeepsFilesAtGate D.Disk disk.old disk.new }
         ensures stop { KeepsRecovered D.Disk disk.old disk.new }
+        ensures kind { (fault : DiskFault) → result ≡ Err (JournalFault.Disk fault) → is_open_call fault.call ≡ true }
         ensures cause { HasJournalCause (D.faults disk.old) (D.faults disk.new) result }
     {
         match recover(disk) {
@@ -62,6 +66,7 @@ impl Journal {
         ensures alike { ToldAlike (D.content disk.old) (D.content disk.new) }
         ensures stop { LeavesOldPagesOrNew D.Disk (changes dirty.now) disk.old disk.new }
         ensures kept { originals_kept self.new ≡ originals_kept self.old }
+        ensures kind { Names is_commit_call result }
         ensures cause { HasCause (D.faults disk.old) (D.faults disk.new) result }
     {
         write_batch(disk, old_pages, dirty)

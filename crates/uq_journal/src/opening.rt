@@ -6,7 +6,8 @@ ghost use Rattle.uq_facts.specs.Causes.{HasCause};
 ghost use Rattle.uq_outside.specs.Files.{Keeps, in_file};
 ghost use Rattle.uq_outside.specs.Since.{IsSettled, IsSettledIn, LeavesOnly, Steps};
 ghost use Rattle.uq_outside.specs.Stops.{ToldAlike};
-ghost use Rattle.uq_journal.specs.Calls.{IsStill, KeepsMainWhereClosed, KeepsRecovered, RecoversAs, Stays};
+ghost use Rattle.uq_journal.specs.Calls.{IsStill, KeepsFilesAtGate, KeepsMainWhereClosed, KeepsRecovered};
+ghost use Rattle.uq_journal.specs.Calls.{Names, RecoversAs, Stays, is_open_call};
 ghost use Rattle.uq_journal.specs.Recovery.{Empties, IsOpen, IsRecovered, IsShut, LeavesMain, Opens};
 ghost use Rattle.uq_journal.specs.Recovery.{RefusesStill, Restores, Shortens, Shows};
 ghost use Rattle.uq_journal.specs.Steps.{Becomes};
@@ -36,6 +37,7 @@ fn undo_batches<D: Disk>(disk: &mut D, len: u64, old_pages: u32) -> Result<(), D
     ensures recovered { OnOk result (ForSome (D.content disk.old) (λ start. IsRecovered D.Disk start disk.new)) }
     ensures alike { ToldAlike (D.content disk.old) (D.content disk.new) }
     ensures stop { ForSome (D.content disk.old) (λ start. LeavesOnly D.Disk disk.old disk.new (RecoversAs start)) }
+    ensures kind { Names is_open_call result }
     ensures cause { HasCause (D.faults disk.old) (D.faults disk.new) result }
 {
     restore_main(disk, len, old_pages)?;
@@ -49,6 +51,7 @@ fn examine<D: Disk>(disk: &mut D, len: u64) -> Result<State, DiskFault>
     requires size { ForSome (D.content disk.old) (λ files. len ≡ length files.journal) }
     ensures shows { IfOk result (λ state. ForSome (D.content disk.old) (λ files. Shows files state)) }
     ensures still { IsStill D.Disk disk.old disk.new }
+    ensures kind { Names is_open_call result }
     ensures cause { HasCause (D.faults disk.old) (D.faults disk.new) result }
 {
     if len == 1 {
@@ -77,8 +80,10 @@ fn restore<D: Disk>(disk: &mut D, len: u64) -> Result<bool, DiskFault>
     ensures answer { IfOk result (λ whole. ForSome (D.content disk.old) (λ start. Restores D.Disk start disk.new whole)) }
     ensures refused { RefusesStill D.Disk disk.old disk.new result }
     ensures closed { KeepsMainWhereClosed D.Disk disk.old disk.new }
+    ensures gate { KeepsFilesAtGate D.Disk disk.old disk.new }
     ensures alike { ToldAlike (D.content disk.old) (D.content disk.new) }
     ensures stop { ForSome (D.content disk.old) (λ start. LeavesOnly D.Disk disk.old disk.new (RecoversAs start)) }
+    ensures kind { Names is_open_call result }
     ensures cause { HasCause (D.faults disk.old) (D.faults disk.new) result }
 {
     match examine(disk, len)? {
@@ -97,6 +102,7 @@ fn cut_journal<D: Disk>(disk: &mut D) -> Result<(), DiskFault>
     ensures steps { Steps D.Disk Shortens disk.old disk.new }
     ensures cut { Becomes D.Disk (in_file Journal (take 1)) disk.old disk.new result }
     ensures settled { OnOk result (ForSome (D.content disk.new) (IsSettledIn D.Disk disk.new Journal)) }
+    ensures kind { Names is_open_call result }
     ensures cause { HasCause (D.faults disk.old) (D.faults disk.new) result }
 {
     disk.cut(FileNo::Journal, 1)?;
@@ -109,7 +115,9 @@ fn empty_journal<D: Disk>(disk: &mut D) -> Result<(), DiskFault>
     requires shut { ForSome (D.content disk.old) (λ files. IsShut files.journal) }
     ensures rest { OnOk result (Empties D.Disk disk.old disk.new) }
     ensures main { Steps D.Disk (Keeps Main) disk.old disk.new }
+    ensures gate { KeepsFilesAtGate D.Disk disk.old disk.new }
     ensures stop { LeavesMain D.Disk disk.old disk.new }
+    ensures kind { Names is_open_call result }
     ensures cause { HasCause (D.faults disk.old) (D.faults disk.new) result }
 {
     cut_journal(disk)?;
@@ -127,6 +135,7 @@ fn settle<D: Disk>(disk: &mut D) -> Result<(), DiskFault>
     ensures steps { Steps D.Disk Stays disk.old disk.new }
     ensures same { OnOk result (D.content disk.new ≡ D.content disk.old) }
     ensures settled { OnOk result (ForSome (D.content disk.new) (IsSettled D.Disk disk.new)) }
+    ensures kind { Names is_open_call result }
     ensures cause { HasCause (D.faults disk.old) (D.faults disk.new) result }
 {
     disk.sync(FileNo::Main)?;
@@ -139,8 +148,10 @@ fn recover_settled<D: Disk>(disk: &mut D) -> Result<bool, DiskFault>
     ensures answer { IfOk result (λ whole. ForSome (D.content disk.old) (λ start. Opens D.Disk start disk.new whole)) }
     ensures refused { RefusesStill D.Disk disk.old disk.new result }
     ensures closed { KeepsMainWhereClosed D.Disk disk.old disk.new }
+    ensures gate { KeepsFilesAtGate D.Disk disk.old disk.new }
     ensures alike { ToldAlike (D.content disk.old) (D.content disk.new) }
     ensures stop { ForSome (D.content disk.old) (λ start. LeavesOnly D.Disk disk.old disk.new (RecoversAs start)) }
+    ensures kind { Names is_open_call result }
     ensures cause { HasCause (D.faults disk.old) (D.faults disk.new) result }
 {
     let len = disk.length(FileNo::Journal)?;
@@ -160,8 +171,10 @@ pub(crate) fn recover<D: Disk>(disk: &mut D) -> Result<bool, DiskFault>
     ensures answer { IfOk result (λ whole. ForSome (D.content disk.old) (λ start. Opens D.Disk start disk.new whole)) }
     ensures refused { RefusesStill D.Disk disk.old disk.new result }
     ensures closed { KeepsMainWhereClosed D.Disk disk.old disk.new }
+    ensures gate { KeepsFilesAtGate D.Disk disk.old disk.new }
     ensures alike { ToldAlike (D.content disk.old) (D.content disk.new) }
     ensures stop { KeepsRecovered D.Disk disk.old disk.new }
+    ensures kind { Names is_open_call result }
     ensures cause { HasCause (D.faults disk.old) (D.faults disk.new) result }
 {
     settle(disk)?;

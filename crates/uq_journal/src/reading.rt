@@ -4,7 +4,7 @@ ghost use Rattle.std.specs.Option.{ForSome};
 ghost use Rattle.uq_facts.specs.Causes.{HasCause};
 ghost use Rattle.uq_journal.specs.declared.format.TheConstants.{ORIGINAL_SIZE};
 ghost use Rattle.uq_journal.specs.Batches.{number};
-ghost use Rattle.uq_journal.specs.Calls.{IsStill};
+ghost use Rattle.uq_journal.specs.Calls.{IsStill, Names, is_open_call};
 ghost use Rattle.uq_journal.specs.Opening.{Leads, Reads, Tells, batches_at, are_below_at, is_whole};
 
 use crate::format::{HEAD_SIZE, OPEN, ORIGINAL_SIZE};
@@ -36,6 +36,7 @@ pub(crate) fn read_number<D: Disk>(disk: &mut D, at: u64) -> Result<u32, DiskFau
     requires within { ForSome (D.content disk.old) (λ files. at + 4 ≤ length files.journal) }
     ensures told { Reads D.Disk (λ files. number (drop at files.journal)) disk.old result }
     ensures still { IsStill D.Disk disk.old disk.new }
+    ensures kind { Names is_open_call result }
     ensures cause { HasCause (D.faults disk.old) (D.faults disk.new) result }
 {
     let mut bytes = [0; 4];
@@ -50,6 +51,7 @@ pub(crate) fn read_gate<D: Disk>(disk: &mut D, at: u64, len: u64) -> Result<Foun
     ensures leads { IfOk result (Leads at len) }
     ensures told { IfOk result (λ found. ForSome (D.content disk.old) (λ files. Tells at files.journal found)) }
     ensures still { IsStill D.Disk disk.old disk.new }
+    ensures kind { Names is_open_call result }
     ensures cause { HasCause (D.faults disk.old) (D.faults disk.new) result }
 {
     let mut gate = [0];
@@ -84,6 +86,7 @@ pub(crate) fn are_below<D: Disk>(
     requires within { ForSome (D.content disk.old) (λ files. from + ORIGINAL_SIZE * count ≤ length files.journal) }
     ensures told { Reads D.Disk (are_below_at old_pages count from) disk.old result }
     ensures still { IsStill D.Disk disk.old disk.new }
+    ensures kind { Names is_open_call result }
     ensures cause { HasCause (D.faults disk.old) (D.faults disk.new) result }
 {
     for i in 0..count {
@@ -99,6 +102,7 @@ pub(crate) fn is_whole<D: Disk>(disk: &mut D, len: u64, old_pages: u32) -> Resul
     requires size { ForSome (D.content disk.old) (λ files. len ≡ length files.journal) }
     ensures told { Reads D.Disk (λ files. is_whole old_pages (batches_at 0 files.journal)) disk.old result }
     ensures still { IsStill D.Disk disk.old disk.new }
+    ensures kind { Names is_open_call result }
     ensures cause { HasCause (D.faults disk.old) (D.faults disk.new) result }
 {
     let mut at = 0;

@@ -3,6 +3,7 @@ ghost use Rattle.std.specs.Prelude.{◌≡◌, ◌+◌, ◌*◌, ◌<◌, ◌≤
 ghost use Rattle.std.specs.Option.{ForSome};
 ghost use Rattle.uq_outside.specs.declared.fault.FileNo.TheVariants.{Main};
 ghost use Rattle.uq_facts.specs.Causes.{HasCause};
+ghost use Rattle.uq_journal.specs.Calls.{Names, is_open_call};
 ghost use Rattle.uq_outside.specs.Stops.{ToldAlike};
 ghost use Rattle.uq_outside.specs.Since.{IsSettledIn};
 ghost use Rattle.uq_page.specs.declared.layout.TheConstants.{PAGE_SIZE};
@@ -25,6 +26,7 @@ fn put_original<D: Disk>(disk: &mut D, at: u64) -> Result<(), DiskFault>
     ensures put { Becomes D.Disk (put_from 1 at) disk.old disk.new result }
     ensures alike { ToldAlike (D.content disk.old) (D.content disk.new) }
     ensures steps { PutsBackAt D.Disk 1 at disk.old disk.new }
+    ensures kind { Names is_open_call result }
     ensures cause { HasCause (D.faults disk.old) (D.faults disk.new) result }
 {
     let no = read_number(disk, at)?;
@@ -41,6 +43,7 @@ fn put_batch<D: Disk>(disk: &mut D, from: u64, count: u32) -> Result<(), DiskFau
     ensures put { Becomes D.Disk (put_from count from) disk.old disk.new result }
     ensures alike { ToldAlike (D.content disk.old) (D.content disk.new) }
     ensures steps { PutsBackAt D.Disk count from disk.old disk.new }
+    ensures kind { Names is_open_call result }
     ensures cause { HasCause (D.faults disk.old) (D.faults disk.new) result }
 {
     for i in 0..count {
@@ -56,6 +59,7 @@ fn put_batches<D: Disk>(disk: &mut D, len: u64) -> Result<(), DiskFault>
     ensures put { Becomes D.Disk put_all disk.old disk.new result }
     ensures alike { ToldAlike (D.content disk.old) (D.content disk.new) }
     ensures steps { PutsEachBack D.Disk disk.old disk.new }
+    ensures kind { Names is_open_call result }
     ensures cause { HasCause (D.faults disk.old) (D.faults disk.new) result }
 {
     let mut at = 0;
@@ -78,6 +82,7 @@ pub(crate) fn restore_main<D: Disk>(disk: &mut D, len: u64, old_pages: u32) -> R
     ensures settled { OnOk result (ForSome (D.content disk.new) (IsSettledIn D.Disk disk.new Main)) }
     ensures alike { ToldAlike (D.content disk.old) (D.content disk.new) }
     ensures steps { PutsAllBack D.Disk old_pages disk.old disk.new }
+    ensures kind { Names is_open_call result }
     ensures cause { HasCause (D.faults disk.old) (D.faults disk.new) result }
 {
     put_batches(disk, len)?;

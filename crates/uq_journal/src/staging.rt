@@ -2,6 +2,7 @@
 ghost use Rattle.std.specs.Prelude.{◌≡◌, ◌+◌, ◌*◌, ◌≤◌, ◌^◌, [], ◌∷◌, length, OnOk, IfOk};
 ghost use Rattle.std.specs.Option.{ForSome};
 ghost use Rattle.uq_facts.specs.Causes.{HasCause};
+ghost use Rattle.uq_journal.specs.Calls.{Names, is_commit_call};
 ghost use Rattle.uq_outside.specs.Since.{Steps};
 ghost use Rattle.uq_page.specs.declared.layout.TheConstants.{PAGE_SIZE};
 ghost use Rattle.uq_journal.specs.declared.format.TheConstants.{ORIGINAL_SIZE};
@@ -20,6 +21,7 @@ pub(crate) fn copy_original<D: Disk>(disk: &mut D, at: u64, no: u32) -> Result<(
     requires there { ForSome (D.content disk.old) (λ files. PAGE_SIZE * no + PAGE_SIZE ≤ length files.main) }
     ensures steps { Steps D.Disk (Behind 1) disk.old disk.new }
     ensures copied { Becomes D.Disk (with_original no at) disk.old disk.new result }
+    ensures kind { Names is_commit_call result }
     ensures cause { HasCause (D.faults disk.old) (D.faults disk.new) result }
 {
     let mut page = [0; PAGE_SIZE];
@@ -34,6 +36,7 @@ fn write_body<D: Disk>(disk: &mut D, old_pages: u32, dirty: &[Dirty]) -> Result<
     requires whole { ForSome (D.content disk.old) (λ files. PAGE_SIZE * old_pages ≤ length files.main) }
     ensures steps { Steps D.Disk (Behind 1) disk.old disk.new }
     ensures staged { IfOk result (StandsTo D.Disk old_pages dirty.now disk.old disk.new) }
+    ensures kind { Names is_commit_call result }
     ensures cause { HasCause (D.faults disk.old) (D.faults disk.new) result }
 {
     let count = count_kept(old_pages, dirty) as u32;
@@ -56,6 +59,7 @@ pub(crate) fn stage_batch<D: Disk>(
     requires whole { ForSome (D.content disk.old) (λ files. PAGE_SIZE * old_pages ≤ length files.main) }
     ensures steps { Steps D.Disk (Behind 1) disk.old disk.new }
     ensures staged { OnOk result (StandsWhole D.Disk old_pages dirty.now disk.old disk.new) }
+    ensures kind { Names is_commit_call result }
     ensures cause { HasCause (D.faults disk.old) (D.faults disk.new) result }
 {
     let end = write_body(disk, old_pages, dirty)?;
@@ -77,6 +81,7 @@ fn add_original<D: Disk>(
     ensures steps { Steps D.Disk (Behind 1) disk.old disk.new }
     ensures next { IfOk result (λ next. next ≡ at + ORIGINAL_SIZE * length (kept old_pages (page.now ∷ []))) }
     ensures added { Becomes D.Disk (with_originals old_pages at (page.now ∷ [])) disk.old disk.new result }
+    ensures kind { Names is_commit_call result }
     ensures cause { HasCause (D.faults disk.old) (D.faults disk.new) result }
 {
     if page.no >= old_pages {

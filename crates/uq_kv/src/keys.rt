@@ -8,8 +8,9 @@ use uq_page::MOST_INLINE;
 
 impl<'d, D: Disk> Kv<'d, D> {
     ghost use Rattle.std.specs.Prelude.{◌≡◌, ◌↔◌, [], ◌∷◌, None, true, Err, OnOk};
+    ghost use Rattle.uq_pager.specs.Keeps.{KeepsDisk};
     ghost use Rattle.uq_kv.specs.Calls.{FailsBy, fetches, stores};
-    ghost use Rattle.uq_kv.specs.Kv.{Does, HasCauses, KeepsKv, LeavesSaved, Reads, closed_of, is_begun_of, limits_of};
+    ghost use Rattle.uq_kv.specs.Kv.{Does, HasCauses, KeepsKv, LeavesSaved, Reads, closed_of, disk_of, is_begun_of, limits_of};
 
     /// Stores data under a key, in place of what was there, and begins a transaction where none is begun.
     ///
@@ -27,6 +28,8 @@ impl<'d, D: Disk> Kv<'d, D> {
         ensures empty { closed_of D.Disk self.old ≡ None → (result ≡ Err KvFault.EmptyKey) ↔ (key.now ≡ []) }
         ensures faults { FailsBy (KvFault.EmptyKey ∷ KvFault.Full ∷ KvFault.Disk ∷ KvFault.Corrupt ∷ KvFault.Memory ∷ []) result }
         ensures begun { OnOk result (is_begun_of D.Disk self.new ≡ true) }
+        // Told or not, a stop within leaves files that recover to what a stop before could leave.
+        ensures kept { KeepsDisk D.Disk (disk_of D.Disk self.old) (disk_of D.Disk self.new) }
         ensures stop { LeavesSaved D.Disk self.old self.new }
         ensures keeps { KeepsKv D.Disk self.old self.new }
         ensures cause { HasCauses D.Disk self.old self.new result }

@@ -32,7 +32,9 @@ pub struct Kv<'d, D: Disk> {
 }
 
 impl<'d, D: Disk> Kv<'d, D> {
-    ghost use Rattle.std.specs.Prelude.{◌≡◌, ◌↔◌, IsOk, IfErr};
+    ghost use Rattle.std.specs.Prelude.{◌≡◌, ◌↔◌, IsOk, IfErr, None};
+    ghost use Rattle.std.specs.Option.{ForSome};
+    ghost use Rattle.uq_outside.specs.Since.{IsSettled};
     ghost use Rattle.uq_model.specs.Session.{Session};
     ghost use Rattle.uq_model.specs.declared.cause.Cause.{Cause};
     ghost use Rattle.uq_kv.specs.Holds.{LeavesNow};
@@ -54,6 +56,8 @@ impl<'d, D: Disk> Kv<'d, D> {
     pub fn into_disk(self) -> &'d mut D
         ensures same_reference { result.ghost_name ≡ (disk_of D.Disk self.entry).ghost_name }
         ensures disk { result.now ≡ (disk_of D.Disk self.entry).now }
+        // Until it is closed, nothing is pending on the disk.
+        ensures rest { closed_of D.Disk self.entry ≡ None → ForSome (D.content result.now) (IsSettled D.Disk result.now) }
         // A stop now leaves what is saved, and nothing else.
         ensures saved { (s : Session Stored) → Tells D.Disk self.entry s → LeavesNow D.Disk result.now s.saved }
     {

@@ -3,7 +3,7 @@ ghost use Rattle.std.specs.Prelude.{◌≡◌, IfOk, OnOk};
 ghost use Rattle.std.specs.Option.{ForSome};
 ghost use Rattle.uq_facts.specs.Causes.{AtErr, HasCauseAt};
 ghost use Rattle.uq_outside.specs.Stops.{ToldAlike};
-ghost use Rattle.uq_journal.specs.Calls.{KeepsMainWhereClosed, KeepsRecovered};
+ghost use Rattle.uq_journal.specs.Calls.{KeepsFilesAtGate, KeepsMainWhereClosed, KeepsRecovered};
 ghost use Rattle.uq_kv.specs.Holds.{HasShape, HoldsNone, RecoversTo};
 ghost use Rattle.uq_kv.specs.Opening.{Finds, IsLeftBy};
 ghost use Rattle.uq_kv.specs.Stored.{Stored};
@@ -38,6 +38,8 @@ pub fn recover<D: Disk>(alloc: Global, disk: &mut D) -> Result<Ready, OpenFault>
     ensures alike { ToldAlike (D.content disk.old) (D.content disk.new) }
     // Where no batch is open, nothing is written to the main file.
     ensures closed { KeepsMainWhereClosed D.Disk disk.old disk.new }
+    // Where the journal is one closed gate, nothing is written at all.
+    ensures gate { KeepsFilesAtGate D.Disk disk.old disk.new }
     // Whatever it answers, a stop within leaves files that recover to what they recovered to.
     ensures stop { KeepsRecovered D.Disk disk.old disk.new }
     ensures cause { HasCauseAt OpenFault.Disk (D.faults disk.old) (D.faults disk.new) result }

@@ -4,9 +4,9 @@ use Rattle.std.specs.Option.{option_and_then}
 use Rattle.std.specs.Borrow.{MutBor}
 use Rattle.std.proofs.Common.{refl, ap, ◌∙◌}
 use Rattle.uq_outside.specs.declared.disk.Disk.{Ghosts}
-use Rattle.uq_outside.specs.Since.{After, Laws}
+use Rattle.uq_outside.specs.Since.{After, Laws, Steps}
 use Rattle.uq_outside.specs.SinceLaws.{started, goes_on, weaker, at_end, steps_on, told_same}
-use Rattle.uq_journal.specs.Calls.{IsStill, RecoversAs, Stays}
+use Rattle.uq_journal.specs.Calls.{IsStill, KeepsFilesAtGate, RecoversAs, Stays}
 use Rattle.uq_journal.specs.Pages.{pages_of}
 use Rattle.uq_pager.specs.Keeps.{KeepsDisk}
 use Rattle.uq_pager.specs.Paged.{Commits}
@@ -41,3 +41,7 @@ module _ {D : Type 0} (g : Ghosts D) (laws : Laws g) where
     same = second.same ∙ first.same;
     steps = steps_on g Stays (λ x y z one two. two ∙ one) laws.counts_now a b c first.steps second.steps;
   }
+
+  -- a run that changes nothing behind an opening
+  pub gate_on : (a b c : D) → KeepsFilesAtGate g a b → Steps g Stays b c → KeepsFilesAtGate g a c
+  gate_on a b c first second start told closed = steps_on g Stays (λ x y z one two. two ∙ one) laws.counts_now a b c (first start told closed) second

@@ -7,7 +7,8 @@ ghost use Rattle.std.specs.Option.{ForSome, option_map};
 ghost use Rattle.uq_facts.specs.Causes.{AtErr, HasCauseAt};
 ghost use Rattle.uq_outside.specs.Stops.{ToldAlike};
 ghost use Rattle.uq_page.specs.declared.layout.TheConstants.{PAGE_SIZE};
-ghost use Rattle.uq_journal.specs.Calls.{HoldsRecovered, KeepsMainWhereClosed, KeepsRecovered, recovered_pages};
+ghost use Rattle.uq_journal.specs.Calls.{HoldsRecovered, KeepsFilesAtGate, KeepsMainWhereClosed, KeepsRecovered};
+ghost use Rattle.uq_journal.specs.Calls.{recovered_pages};
 ghost use Rattle.uq_journal.specs.Journals.{originals_kept};
 ghost use Rattle.uq_pager.specs.Changes.{batch_of};
 ghost use Rattle.uq_pager.specs.Opening.{IsNoDatabase, RecoversToCount, RestsAt};
@@ -59,6 +60,7 @@ pub fn recover<D: Disk>(alloc: Global, disk: &mut D, cache: u32) -> Result<Ready
     ensures not_database { AtErr PagerFault.NotDatabase result (ForSome (D.content disk.old) IsNoDatabase) }
     ensures alike { ToldAlike (D.content disk.old) (D.content disk.new) }
     ensures closed { KeepsMainWhereClosed D.Disk disk.old disk.new }
+    ensures gate { KeepsFilesAtGate D.Disk disk.old disk.new }
     ensures stop { KeepsRecovered D.Disk disk.old disk.new }
     ensures cause { HasCauseAt PagerFault.Disk (D.faults disk.old) (D.faults disk.new) result }
 {

@@ -7,6 +7,7 @@ use Rattle.uq_journal.proofs.Emptying.{cut_stop, cut_rest, close_stop, close_res
 use Rattle.uq_journal.proofs.MainKept.{main_cut, main_gate, main_on, main_still}
 use Rattle.uq_journal.proofs.Results.{on_ok_two}
 use Rattle.uq_journal.proofs.Still.{still_call, still_leaves}
+use Rattle.uq_journal.proofs.AtGate.{nothing_shortened, reads_closed, stays_on}
 use Rattle.uq_journal.proofs.opening.empty_journal.Goals as goal
 
 pub returns-in_err-cut_journal-clause-stop : goal.returns-in_err-cut_journal-clause-stop
@@ -73,3 +74,24 @@ returns-clause-main g c =
 
 pub returns-in_err-cut_journal-clause-main : goal.returns-in_err-cut_journal-clause-main
 returns-in_err-cut_journal-clause-main g c = main_cut g.D.Disk c.args.disk.now c.cut_journal.new.disk c.cut_journal.ensures.steps
+
+pub returns-in_err-cut_journal-clause-gate : goal.returns-in_err-cut_journal-clause-gate
+returns-in_err-cut_journal-clause-gate g c files told closed = nothing_shortened g.D.Disk c.args.disk.now c.cut_journal.new.disk files (c.requires.settled files told) closed c.cut_journal.ensures.steps
+
+pub returns-in_err-read-clause-gate : goal.returns-in_err-read-clause-gate
+returns-in_err-read-clause-gate g c files told closed =
+    let cut = nothing_shortened g.D.Disk c.args.disk.now c.cut_journal.new.disk files (c.requires.settled files told) closed c.cut_journal.ensures.steps in
+    let read = still_call g.D.Disk g.met.D.Disk.only_now c.cut_journal.new.disk c.read.new.self c.read.ensures.same c.read.ensures.stop c.read.ensures.time in
+    stays_on g.D.Disk g.met.D.Disk.counts_now c.args.disk.now c.cut_journal.new.disk c.read.new.self cut read.steps
+
+pub returns-then-gate-eq-CLOSED-clause-gate : goal.returns-then-gate-eq-CLOSED-clause-gate
+returns-then-gate-eq-CLOSED-clause-gate g c files told closed =
+    let cut = nothing_shortened g.D.Disk c.args.disk.now c.cut_journal.new.disk files (c.requires.settled files told) closed c.cut_journal.ensures.steps in
+    let read = still_call g.D.Disk g.met.D.Disk.only_now c.cut_journal.new.disk c.read.new.self c.read.ensures.same c.read.ensures.stop c.read.ensures.time in
+    stays_on g.D.Disk g.met.D.Disk.counts_now c.args.disk.now c.cut_journal.new.disk c.read.new.self cut read.steps
+
+pub returns-clause-gate : goal.returns-clause-gate
+returns-clause-gate g c files told closed =
+    let there = c.in_ok-cut_journal.ensures.cut ∙ ap (option_map (in_file Journal (take 1))) told in
+    let gate = reads_closed files.journal c.read.new.into closed (c.in_ok-read.ensures.told (in_file Journal (take 1) files) there) in
+    absurd (c.if-gate-eq-CLOSED.false gate)

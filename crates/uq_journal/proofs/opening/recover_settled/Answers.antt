@@ -1,4 +1,4 @@
-use Rattle.std.proofs.Common.{◌≡◌, ◌∙◌, Some, refl, sym, subst}
+use Rattle.std.proofs.Common.{◌≡◌, ◌∙◌, Some, length, refl, sym, ap, subst, arith}
 use Rattle.uq_outside.specs.declared.fault.FileNo.TheVariants.{Main}
 use Rattle.uq_outside.specs.Files.{Files, Keeps}
 use Rattle.uq_outside.specs.SinceLaws.{goes_on, weaker}
@@ -8,6 +8,7 @@ use Rattle.uq_journal.specs.Recovery.{IsRecovered, Restores}
 use Rattle.uq_journal.proofs.MainKept.{main_on, main_same}
 use Rattle.uq_journal.proofs.Emptying.{fresh_stop, fresh_rest}
 use Rattle.uq_journal.proofs.Still.{still_call, still_from, still_run, still_settled}
+use Rattle.uq_journal.proofs.AtGate.{stays_on, stays_told}
 use Rattle.uq_journal.proofs.opening.recover_settled.Goals as goal
 
 pub returns-in_err-len-clause-stop : goal.returns-in_err-len-clause-stop
@@ -79,3 +80,46 @@ returns-clause-closed g c files told closed =
     let first = still_run g.D.Disk (Keeps Main) main_same c.args.disk.now c.length.new.self still in
     let on = main_on g.D.Disk g.met.D.Disk.counts_now in
     on c.args.disk.now c.restore.new.disk c.empty_journal.new.disk (on c.args.disk.now c.length.new.self c.restore.new.disk first (c.restore.ensures.closed files (still.same ∙ told) closed)) c.empty_journal.ensures.main
+
+pub returns-in_err-len-clause-gate : goal.returns-in_err-len-clause-gate
+returns-in_err-len-clause-gate g c files told closed =
+    let still = still_call g.D.Disk g.met.D.Disk.only_now c.args.disk.now c.length.new.self c.length.ensures.same c.length.ensures.stop c.length.ensures.time in
+    still.steps
+
+pub returns-in_err-set_gate-clause-gate : goal.returns-in_err-set_gate-clause-gate
+returns-in_err-set_gate-clause-gate g c files told closed =
+    let still = still_call g.D.Disk g.met.D.Disk.only_now c.args.disk.now c.length.new.self c.length.ensures.same c.length.ensures.stop c.length.ensures.time in
+    absurd (omega (arith, c.in_ok-len.ensures.told files told, c.if-len-eq0.true, ap length closed))
+
+pub returns-then-len-eq0-clause-gate : goal.returns-then-len-eq0-clause-gate
+returns-then-len-eq0-clause-gate g c files told closed =
+    let still = still_call g.D.Disk g.met.D.Disk.only_now c.args.disk.now c.length.new.self c.length.ensures.same c.length.ensures.stop c.length.ensures.time in
+    absurd (omega (arith, c.in_ok-len.ensures.told files told, c.if-len-eq0.true, ap length closed))
+
+pub returns-in_err-restore-clause-gate : goal.returns-in_err-restore-clause-gate
+returns-in_err-restore-clause-gate g c files told closed =
+    let still = still_call g.D.Disk g.met.D.Disk.only_now c.args.disk.now c.length.new.self c.length.ensures.same c.length.ensures.stop c.length.ensures.time in
+    let two = stays_on g.D.Disk g.met.D.Disk.counts_now c.args.disk.now c.length.new.self c.restore.new.disk still.steps (c.restore.ensures.gate files (still.same ∙ told) closed) in
+    two
+
+pub returns-then-not-branch-clause-gate : goal.returns-then-not-branch-clause-gate
+returns-then-not-branch-clause-gate g c files told closed =
+    let still = still_call g.D.Disk g.met.D.Disk.only_now c.args.disk.now c.length.new.self c.length.ensures.same c.length.ensures.stop c.length.ensures.time in
+    let two = stays_on g.D.Disk g.met.D.Disk.counts_now c.args.disk.now c.length.new.self c.restore.new.disk still.steps (c.restore.ensures.gate files (still.same ∙ told) closed) in
+    two
+
+pub returns-in_err-empty_journal-clause-gate : goal.returns-in_err-empty_journal-clause-gate
+returns-in_err-empty_journal-clause-gate g c files told closed =
+    let still = still_call g.D.Disk g.met.D.Disk.only_now c.args.disk.now c.length.new.self c.length.ensures.same c.length.ensures.stop c.length.ensures.time in
+    let two = stays_on g.D.Disk g.met.D.Disk.counts_now c.args.disk.now c.length.new.self c.restore.new.disk still.steps (c.restore.ensures.gate files (still.same ∙ told) closed) in
+    let done : IsRecovered g.D.Disk files c.restore.new.disk = subst (Restores g.D.Disk files c.restore.new.disk) c.if-not-branch.false (c.in_ok-restore.ensures.answer files (still.same ∙ told)) in
+    let same = stays_told g.D.Disk g.met.D.Disk.counts_now g.met.D.Disk.told_may_stay c.args.disk.now c.restore.new.disk files (c.requires.settled files told) two done.now done.told in
+    stays_on g.D.Disk g.met.D.Disk.counts_now c.args.disk.now c.restore.new.disk c.empty_journal.new.disk two (c.empty_journal.ensures.gate done.now done.told (ap (λ (f : Files). f.journal) same ∙ closed))
+
+pub returns-clause-gate : goal.returns-clause-gate
+returns-clause-gate g c files told closed =
+    let still = still_call g.D.Disk g.met.D.Disk.only_now c.args.disk.now c.length.new.self c.length.ensures.same c.length.ensures.stop c.length.ensures.time in
+    let two = stays_on g.D.Disk g.met.D.Disk.counts_now c.args.disk.now c.length.new.self c.restore.new.disk still.steps (c.restore.ensures.gate files (still.same ∙ told) closed) in
+    let done : IsRecovered g.D.Disk files c.restore.new.disk = subst (Restores g.D.Disk files c.restore.new.disk) c.if-not-branch.false (c.in_ok-restore.ensures.answer files (still.same ∙ told)) in
+    let same = stays_told g.D.Disk g.met.D.Disk.counts_now g.met.D.Disk.told_may_stay c.args.disk.now c.restore.new.disk files (c.requires.settled files told) two done.now done.told in
+    stays_on g.D.Disk g.met.D.Disk.counts_now c.args.disk.now c.restore.new.disk c.empty_journal.new.disk two (c.empty_journal.ensures.gate done.now done.told (ap (λ (f : Files). f.journal) same ∙ closed))

@@ -43,6 +43,7 @@ returns-in_default g c =
           put_end g.D.Disk c.args.disk.now files c.read_gate.new.disk c.loop-at.at (so_far files told) (none_left c.loop-at.at files.journal c.in_ok-head.field-0 c.in_default.not-Open tells));
       alike = alike;
       steps = λ files told. (so_far files told).steps;
+      kind = tt;
       cause = record {
         later = omega (arith, c.in_ok-head.ensures.cause.quiet, c.loop-at.invariant.quiet);
         failed = tt;

@@ -2,6 +2,8 @@ use Rattle.std.proofs.Common.{◌≡◌, Some, ap, sym, arith, ◌∙◌}
 use Rattle.uq_page.specs.Page.{bytes_of}
 use Rattle.uq_page.specs.declared.header.Header.{Header}
 use Rattle.uq_kv.proofs.Openings.{database_empty, database_read, header_there, main_behind, pages_still, shape_empty, shape_named}
+use Rattle.uq_pager.specs.KeepsLaws.{gate_on}
+use Rattle.uq_outside.specs.Since.{Laws}
 use Rattle.uq_kv.proofs.recovering.recover.Goals as goal
 
 pub returns-then-count-eq0-clause-found : goal.returns-then-count-eq0-clause-found
@@ -49,3 +51,23 @@ returns-clause-shape g c = λ start on.
 pub returns-clause-closed : goal.returns-clause-closed
 returns-clause-closed g c =
     main_behind g.D.Disk (record { only_now = g.met.D.Disk.only_now; counts_now = g.met.D.Disk.counts_now }) c.args.disk.now c.recover.new.disk c.read_page.new.disk c.in_ok-pager.ensures.closed c.in_ok-read_page.ensures.still
+
+pub returns-in_err-read_page-clause-gate : goal.returns-in_err-read_page-clause-gate
+returns-in_err-read_page-clause-gate g c =
+    let laws : Laws g.D.Disk = record { only_now = g.met.D.Disk.only_now; counts_now = g.met.D.Disk.counts_now } in
+    gate_on g.D.Disk laws c.args.disk.now c.recover.new.disk c.read_page.new.disk c.in_ok-pager.ensures.gate c.in_err-read_page.ensures.still.steps
+
+pub returns-in_default-clause-gate : goal.returns-in_default-clause-gate
+returns-in_default-clause-gate g c =
+    let laws : Laws g.D.Disk = record { only_now = g.met.D.Disk.only_now; counts_now = g.met.D.Disk.counts_now } in
+    gate_on g.D.Disk laws c.args.disk.now c.recover.new.disk c.read_page.new.disk c.in_ok-pager.ensures.gate c.in_ok-read_page.ensures.still.steps
+
+pub returns-then-header-count-clause-gate : goal.returns-then-header-count-clause-gate
+returns-then-header-count-clause-gate g c =
+    let laws : Laws g.D.Disk = record { only_now = g.met.D.Disk.only_now; counts_now = g.met.D.Disk.counts_now } in
+    gate_on g.D.Disk laws c.args.disk.now c.recover.new.disk c.read_page.new.disk c.in_ok-pager.ensures.gate c.in_ok-read_page.ensures.still.steps
+
+pub returns-clause-gate : goal.returns-clause-gate
+returns-clause-gate g c =
+    let laws : Laws g.D.Disk = record { only_now = g.met.D.Disk.only_now; counts_now = g.met.D.Disk.counts_now } in
+    gate_on g.D.Disk laws c.args.disk.now c.recover.new.disk c.read_page.new.disk c.in_ok-pager.ensures.gate c.in_ok-read_page.ensures.still.steps

@@ -12,6 +12,8 @@ use Rattle.uq_kv.specs.Kv.{Tells, disk_of}
 use Rattle.uq_kv.specs.Stored.{Stored, stored_key}
 use Rattle.uq_kv.specs.Writing.{Puts}
 use Rattle.uq_kv.specs.declared.writing.Put.{Put}
+use Rattle.uq_pager.specs.Keeps.{KeepsDisk}
+use Rattle.uq_pager.specs.KeepsLaws.{keeps_itself}
 use Rattle.uq_kv.proofs.Faults.{stopped}
 use Rattle.uq_kv.proofs.Sessions.{stores_done, stores_full}
 use Rattle.uq_kv.proofs.Stops.{saved_here, saved_kept}
@@ -63,3 +65,16 @@ pub returns-in-Err-clause-cause : goal.returns-in-Err-clause-cause
 returns-in-Err-clause-cause g c =
     stopped g.D.Disk c.args.self.now _ _ c.write.result (Err c.close_by.result) (c.in_ok-check_open.ensures.open.0 refl) c.write.ensures.cause
     c.in-Err.fault c.in-Err.is (ap Err c.close_by.ensures.fault) c.close_by.ensures.closed
+
+-- where no call was made of the pager
+pub returns-in_err-check_open-clause-kept : goal.returns-in_err-check_open-clause-kept
+returns-in_err-check_open-clause-kept g c = keeps_itself g.D.Disk (record { only_now = g.met.D.Disk.only_now; counts_now = g.met.D.Disk.counts_now }) c.args.self.now.pager.disk
+
+pub returns-then-is_empty-clause-kept : goal.returns-then-is_empty-clause-kept
+returns-then-is_empty-clause-kept g c = keeps_itself g.D.Disk (record { only_now = g.met.D.Disk.only_now; counts_now = g.met.D.Disk.counts_now }) c.args.self.now.pager.disk
+
+pub returns-then-key-gt-MOST_KEY-clause-kept : goal.returns-then-key-gt-MOST_KEY-clause-kept
+returns-then-key-gt-MOST_KEY-clause-kept g c = keeps_itself g.D.Disk (record { only_now = g.met.D.Disk.only_now; counts_now = g.met.D.Disk.counts_now }) c.args.self.now.pager.disk
+
+pub returns-in-Ok-Done-clause-kept : goal.returns-in-Ok-Done-clause-kept
+returns-in-Ok-Done-clause-kept g c = subst (KeepsDisk g.D.Disk c.args.self.now.pager.disk) (sym c.begin.ensures.disk) c.in-Ok-Done.ensures.keeps.disk
