@@ -1,16 +1,24 @@
 -- The worked rows, computed.
 use Rattle.std.proofs.Common.{refl}
-use Rattle.uq_model.specs.Rows.{FullRows, SessionRows}
+use Rattle.uq_value.specs.Size.{leb_size}
+use Rattle.uq_model.specs.Rows.{NameRows, RecordRows, BatchRows, FullRows}
 
-pub session_rows : SessionRows
-session_rows = record {
-  begun = refl;
-  begun_twice = refl;
-  committed = refl;
-  nothing_to_commit = refl;
-  rolled_back = refl;
-  nothing_to_roll_back = refl;
-}
+pub name_rows : NameRows
+name_rows = record { letter = refl; underscore = refl; empty = refl; hyphen = refl }
+
+pub record_rows : RecordRows
+record_rows = record { plain = refl; moved = refl }
+
+pub batch_rows : BatchRows
+unfolding leb_size
+batch_rows = record { none = refl; two = refl; one_bad = refl; last_id = refl; used_up = refl }
 
 pub full_rows : FullRows
-full_rows = record { reached = refl; one_entry_more = refl; one_byte_more = refl; nothing_grows = refl; entries_fall = refl }
+full_rows = record {
+  reached = refl;
+  one_entry_more = refl;
+  one_byte_more = refl;
+  nothing_grows = refl;
+  entries_fall =
+      refl;
+}

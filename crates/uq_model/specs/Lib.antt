@@ -1,3 +1,11 @@
-pub mod Full
-pub mod Rows
+pub mod Store
 pub mod Session
+pub mod Full
+pub mod Collections
+pub mod IsStore
+pub mod Base
+pub mod Change
+pub mod Batch
+pub mod Held
+pub mod Map
+pub mod Rows

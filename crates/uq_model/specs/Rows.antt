@@ -1,36 +1,49 @@
--- Worked rows, for the contract of a call that does nothing.
-use Rattle.std.specs.Prelude.{◌≡◌, ℕ, true, false}
+-- Worked rows of the calls on collections, for the contract of a call that does nothing.
+use Rattle.std.specs.Prelude.{◌≡◌, ℕ, ◌-◌, ◌^◌, true, false, pos, [], ◌∷◌, Ok, Err}
+use Rattle.uq_value.specs.Data.{Bytes, int}
+use Rattle.uq_value.specs.declared.value.Value.{Value}
+use Rattle.uq_model.specs.declared.done.Refusal.TheVariants.{NotObject, IdsUsedUp}
 use Rattle.uq_model.specs.declared.limits.Limits.{Limits}
 use Rattle.uq_model.specs.Full.{Sums, is_full}
-use Rattle.uq_model.specs.Session.{Session, begins, commits, opened, rolls_back, with_present}
+use Rattle.uq_model.specs.Collections.{is_name, id_name, record_of, batch}
 
-abbrev holding : ℕ → ℕ → Limits
+-- `u`, and `a`
+abbrev pub u : Bytes
+u = 117 ∷ []
+
+abbrev a : Bytes
+a = 97 ∷ []
+
+abbrev pub holding : ℕ → ℕ → Limits
 holding entries bytes = record { entries = entries; bytes = bytes }
 
-abbrev sums_of : ℕ → ℕ → Sums
+abbrev pub sums_of : ℕ → ℕ → Sums
 sums_of entries bytes = record { entries = entries; bytes = bytes }
 
--- a session in which nothing is begun over 1, one over 2, and one in which 1 was saved and 2 is there
-abbrev on_one : Session ℕ
-on_one = opened 1
+-- the empty object
+abbrev pub nothing : Value
+nothing = Value.Object []
 
-abbrev on_two : Session ℕ
-on_two = opened 2
+-- a name has 1 to 64 bytes of letters, digits and `_`
+pub record NameRows : Type 0 where
+  pub letter : is_name u ≡ true
+  pub underscore : is_name (95 ∷ 57 ∷ 90 ∷ []) ≡ true
+  pub empty : is_name [] ≡ false
+  pub hyphen : is_name (117 ∷ 45 ∷ []) ≡ false
 
-abbrev written : Session ℕ
-written = with_present 2 on_one
+-- `__id` comes last, whatever the object had there
+pub record RecordRows : Type 0 where
+  pub plain : record_of 0 [] ≡ Value.Object ((id_name, int (pos 0)) ∷ [])
+  pub moved : record_of 7 ((id_name, int (pos 3)) ∷ (a, int (pos 1)) ∷ []) ≡ Value.Object
+      ((a, int (pos 1)) ∷ (id_name, int (pos 7)) ∷ [])
 
-abbrev untouched : Session ℕ
-untouched = record { saved = 1; present = 1; begun = true }
-
--- with none begun a commit and a rollback do nothing, and so does a begin with one begun
-pub record SessionRows : Type 0 where
-  pub begun : begins on_one ≡ (tt, untouched)
-  pub begun_twice : begins written ≡ (tt, written)
-  pub committed : commits written ≡ (true, on_two)
-  pub nothing_to_commit : commits on_one ≡ (false, on_one)
-  pub rolled_back : rolls_back written ≡ (tt, on_one)
-  pub nothing_to_roll_back : rolls_back on_one ≡ (tt, on_one)
+-- what is made of a list, and its first refusal
+pub record BatchRows : Type 0 where
+  pub none : batch 5 [] ≡ Ok []
+  pub two : batch 5 (nothing ∷ nothing ∷ []) ≡ Ok ((5, record_of 5 []) ∷ (6, record_of 6 []) ∷ [])
+  pub one_bad : batch 5 (nothing ∷ Value.Null ∷ []) ≡ Err NotObject
+  pub last_id : batch (2 ^ 63 - 2) (nothing ∷ []) ≡ Ok ((2 ^ 63 - 2, record_of (2 ^ 63 - 2) []) ∷ [])
+  pub used_up : batch (2 ^ 63 - 2) (nothing ∷ nothing ∷ []) ≡ Err IdsUsedUp
 
 -- a limit may be reached, and not passed by what grows
 pub record FullRows : Type 0 where

@@ -10,3 +10,16 @@ pub enum Cause {
     /// Memory was asked for and not had.
     Memory,
 }
+
+/// Why a call on a base has no answer. The base is closed from then on.
+#[derive(Clone, Copy, Debug, PartialEq, Eq)]
+pub enum BaseStop {
+    /// What lies behind the base failed in this call.
+    Disk,
+    /// What lies behind the base is no store.
+    Corrupt,
+    /// The base was closed before this call, by this cause.
+    Closed { first: Cause },
+    /// Memory was asked for and not had.
+    Memory,
+}

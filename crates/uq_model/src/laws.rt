@@ -1,8 +1,10 @@
 //! Worked rows of the definitions, as the contract of a call that does nothing.
-ghost use Rattle.uq_model.specs.Rows.{FullRows, SessionRows};
+ghost use Rattle.uq_model.specs.Rows.{NameRows, RecordRows, BatchRows, FullRows};
 
-/// What the calls on transactions make of a session, and which writes are too much.
+/// What names, records, lists of objects and limits come to.
 pub fn worked_rows()
-    ensures sessions { SessionRows }
+    ensures names { NameRows }
+    ensures records { RecordRows }
+    ensures batches { BatchRows }
     ensures full { FullRows }
 {}

@@ -9,8 +9,8 @@ pub const MOST_BYTES: u64 = 1_073_741_824;
 /// The limits of a store. A write is refused where it makes entries or bytes greater than before and greater than here.
 #[derive(Clone, Copy, Debug, PartialEq, Eq)]
 pub struct Limits {
-    /// How many entries there may be, at most 2^24.
+    /// Keys, collections and records, at most 2^24.
     pub entries: u64,
-    /// How many bytes their stored keys and data may take together, at most 2^30.
+    /// What their stored keys and data take together, at most 2^30.
     pub bytes: u64,
 }

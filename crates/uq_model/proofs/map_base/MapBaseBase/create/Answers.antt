@@ -1,0 +1,26 @@
+use Rattle.std.proofs.Common.{refl}
+use Rattle.uq_model.specs.Map.{shown_by, session_in}
+use Rattle.uq_model.specs.Held.{held_in}
+use Rattle.uq_model.specs.Collections.{writes, creates, created, bounded, of_create}
+use Rattle.uq_model.proofs.MapLemmas.{map_same, map_gives}
+use Rattle.uq_model.proofs.Giving.{create_gives}
+use Rattle.uq_model.proofs.map_base.MapBaseBase.create.Goals as goal
+
+pub returns-clause-does : goal.returns-clause-does
+returns-clause-does c =
+    map_same (writes (bounded c.args.self.now.limits (created c.args.name.now) (held_in c.args.self.now.present)))
+    (creates c.args.name.now c.args.self.now.limits) c.args.self.now
+    (shown_by c.write.new.self) c.write.result refl
+    (c.write.ensures (bounded c.args.self.now.limits (created c.args.name.now) (held_in c.args.self.now.present))
+    c.creation-planned.ensures.chooses)
+
+pub returns-clause-refusals : goal.returns-clause-refusals
+returns-clause-refusals c =
+    map_gives of_create (creates c.args.name.now c.args.self.now.limits) c.args.self.now
+    (shown_by c.write.new.self) c.write.result
+    (map_same (writes (bounded c.args.self.now.limits (created c.args.name.now) (held_in c.args.self.now.present)))
+    (creates c.args.name.now c.args.self.now.limits) c.args.self.now
+    (shown_by c.write.new.self) c.write.result refl
+    (c.write.ensures (bounded c.args.self.now.limits (created c.args.name.now) (held_in c.args.self.now.present))
+    c.creation-planned.ensures.chooses))
+    (create_gives c.args.self.now.limits c.args.name.now (session_in c.args.self.now))

@@ -1,0 +1,28 @@
+use Rattle.std.proofs.Common.{refl}
+use Rattle.uq_model.specs.Map.{shown_by, session_in}
+use Rattle.uq_model.specs.Held.{held_in}
+use Rattle.uq_model.specs.Collections.{writes, replaces_record, record_replaced, bounded, of_replace}
+use Rattle.uq_model.proofs.MapLemmas.{map_same, map_gives}
+use Rattle.uq_model.proofs.Giving.{replace_gives}
+use Rattle.uq_model.proofs.map_base.MapBaseBase.replace_record.Goals as goal
+
+pub returns-clause-does : goal.returns-clause-does
+returns-clause-does c =
+    map_same (writes (bounded c.args.self.now.limits (record_replaced c.args.name.now c.args.id c.args.object.now)
+    (held_in c.args.self.now.present)))
+    (replaces_record c.args.name.now c.args.id c.args.object.now c.args.self.now.limits) c.args.self.now
+    (shown_by c.write.new.self) c.write.result refl
+    (c.write.ensures (bounded c.args.self.now.limits (record_replaced c.args.name.now c.args.id c.args.object.now)
+    (held_in c.args.self.now.present)) c.replacing-planned.ensures.chooses)
+
+pub returns-clause-refusals : goal.returns-clause-refusals
+returns-clause-refusals c =
+    map_gives of_replace (replaces_record c.args.name.now c.args.id c.args.object.now c.args.self.now.limits)
+    c.args.self.now (shown_by c.write.new.self) c.write.result
+    (map_same (writes (bounded c.args.self.now.limits (record_replaced c.args.name.now c.args.id c.args.object.now)
+    (held_in c.args.self.now.present)))
+    (replaces_record c.args.name.now c.args.id c.args.object.now c.args.self.now.limits) c.args.self.now
+    (shown_by c.write.new.self) c.write.result refl
+    (c.write.ensures (bounded c.args.self.now.limits (record_replaced c.args.name.now c.args.id c.args.object.now)
+    (held_in c.args.self.now.present)) c.replacing-planned.ensures.chooses))
+    (replace_gives c.args.self.now.limits c.args.name.now c.args.id c.args.object.now (session_in c.args.self.now))
