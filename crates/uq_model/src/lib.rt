@@ -16,6 +16,8 @@ mod measuring;
 mod planning;
 mod records;
 mod tables;
+#[cfg(test)]
+mod tests;
 
 pub use base::Base;
 pub use cause::{BaseStop, Cause};
