@@ -1,6 +1,6 @@
 -- A small program and its tree, by the grammar.
-use Rattle.std.proofs.Common.{ℕ, zero, suc, pos, List, [], ◌∷◌, refl, sym, append-nil, arith}
-use Rattle.jx9_syntax.specs.Grammar.{Rule, Level, IsUnary, with_steps, of_or, of_primary, of_literal, literal_at, spot, chain, first, expr_statement, StatementWithin, ExprWithin, UnaryWithin, BlockWithin, of_expr, statement, Run}
+use Rattle.std.proofs.Common.{ℕ, zero, suc, false, pos, List, [], ◌∷◌, refl, sym, append-nil, arith}
+use Rattle.jx9_syntax.specs.Grammar.{code, Rule, Level, IsUnary, with_steps, of_or, of_primary, of_literal, literal_at, spot, chain, first, expr_statement, StatementWithin, ExprWithin, UnaryWithin, BlockWithin, simple, of_expr, statement, Run}
 use Rattle.jx9_syntax.specs.Making.{Making, mapped, then_made, all_made}
 use Rattle.jx9_syntax.specs.Program.{IsProgramOf}
 use Rattle.jx9_syntax.specs.declared.expression.Expr.{Expr}
@@ -64,9 +64,9 @@ abbrev tree : Expr
 tree = record { line = 2; token = 0; node = Node.Literal (literal.Int (pos 1)) }
 
 -- `1;` in line 2
-the_statement : StatementWithin 200 (one ∷ semicolon ∷ []) (mapped expr_statement (then_made first (raised 7) (spot semicolon)))
-unfolding StatementWithin
-the_statement = of_expr (λ e. absurd (omega (arith, e))) (record {
+the_statement : StatementWithin 200 false (one ∷ semicolon ∷ []) (mapped expr_statement (then_made first (raised 7) (spot semicolon)))
+unfolding StatementWithin code
+the_statement = simple refl (of_expr (λ e. absurd (omega (arith, e))) (record {
   value = then_made first (raised 7) (spot semicolon);
   is_word = record {
     front = one ∷ [];
@@ -79,16 +79,17 @@ the_statement = of_expr (λ e. absurd (omega (arith, e))) (record {
     is_value = refl;
   };
   is_value = refl;
-})
+}))
 
 -- and it is a program of one statement
 pub number_is_a_program : IsProgramOf (one ∷ semicolon ∷ end ∷ []) (record { functions = []; lambdas = []; statements = record { line = 2; token = 0; kind = Kind.Expr tree } ∷ [] })
+unfolding code
 number_is_a_program = record {
   body = one ∷ semicolon ∷ [];
   last = end;
   items = mapped Run (mapped expr_statement (then_made first (raised 7) (spot semicolon))) ∷ [];
   split = refl;
   is_end = refl;
-  reads = (one ∷ semicolon ∷ [], [], refl, statement (record { value = mapped expr_statement (then_made first (raised 7) (spot semicolon)); is_word = the_statement; is_value = refl }), refl);
+  reads = (one ∷ semicolon ∷ [], [], refl, statement (record { value = mapped expr_statement (then_made first (raised 7) (spot semicolon)); is_word = (false, the_statement); is_value = refl }), refl);
   makes = refl;
 }

@@ -4,7 +4,6 @@ use Rattle.std.specs.Str.{bytes_eq}
 use Rattle.uq_value.specs.Data.{Bytes}
 use Rattle.jx9_syntax.specs.Words.{Language, One, Nothing, Map, Then, Many}
 use Rattle.jx9_syntax.specs.Making.{Making, nothing, of_token, mapped, then_made, all_made, lambda_made}
-use Rattle.jx9_syntax.specs.Trees.{StatementLayer, kind_of}
 use Rattle.jx9_syntax.specs.declared.expression.Access
 use Rattle.jx9_syntax.specs.declared.expression.Access.{Access as AccessTree}
 use Rattle.jx9_syntax.specs.declared.expression.Binary.{Binary}
@@ -26,7 +25,6 @@ use Rattle.jx9_syntax.specs.declared.sign.Sign.{Sign}
 use Rattle.jx9_syntax.specs.declared.sign.Sign.TheVariants as sign
 use Rattle.jx9_syntax.specs.declared.statement.Branch.{Branch}
 use Rattle.jx9_syntax.specs.declared.statement.Kind
-use Rattle.jx9_syntax.specs.declared.statement.Kind.TheOpen.{Kind-F}
 use Rattle.jx9_syntax.specs.declared.statement.Statement.{Statement}
 use Rattle.jx9_syntax.specs.declared.token.Token.{Token}
 use Rattle.jx9_syntax.specs.declared.token.TokenKind.{TokenKind}
@@ -110,7 +108,8 @@ kind_code (kind.Name name) = word_code name
 kind_code (kind.Sign s) = sign_code s
 kind_code (kind.Var name) = 17
 
-abbrev pub code : Token → ℕ
+-- it does not unfold by itself: the numbers of names are long to compute
+unfoldable pub code : Token → ℕ
 code t = kind_code t.kind
 
 -- what a token tells: its line, and its number among the tokens
@@ -236,15 +235,17 @@ abbrev pub PerhapsCommas : {A : Type 0} → Rule A → Rule (List A)
 PerhapsCommas L = Map (Perhaps (Commas L)) (mapped or_none)
 
 -- items and the closing sign: a comma behind each item, which the last may lack
-abbrev pub Listed : {A : Type 0} → Sign → Rule A → List Token → List (Making A) → Type 0
-Listed close L word [] = (s : Making Spot) × One (is_sign close) word s
-Listed close L word (m ∷ others) = (front : List Token) × (back : List Token) × (a : Making _) × (word ≡ front ++ back) × L front a
-    × (((s : Making Spot) × One (is_sign close) back s × (m ≡ a) × (others ≡ []))
-    ⊎ ((comma : List Token) × (tail : List Token) × (s : Making Spot) × (back ≡ comma ++ tail) × One (is_sign sign.Comma) comma s × (m ≡ then_made first a s) × Listed close L tail others))
+mutual
+  pub data Listed {A : Type 0} (close : Sign) (L : Rule A) : List Token → Making (List A) → Type 0 where
+    no_item : {word : List Token} {m : Making (List A)} → Map (One (is_sign close)) (mapped (λ s. [])) word m → Listed close L word m
+    an_item : {word : List Token} {m : Making (List A)} (front back : List Token) (a : Making A) (others : Making (List A)) → word ≡ front ++ back → L front a → BehindItem close L back others
+        → m ≡ then_made ◌∷◌ a others → Listed close L word m
 
--- all items; the closing sign is one token more
-abbrev pub closed : {A : Type 0} → List (Making A) → Making (List A)
-closed ms = then_made first (all_made ms) (of_token (λ n. n))
+  -- what is behind an item: the closing sign, or a comma and what is listed behind it
+  pub data BehindItem {A : Type 0} (close : Sign) (L : Rule A) : List Token → Making (List A) → Type 0 where
+    last_item : {word : List Token} {m : Making (List A)} → Map (One (is_sign close)) (mapped (λ s. [])) word m → BehindItem close L word m
+    comma_behind : {word : List Token} {m : Making (List A)} (front back : List Token) (s : Making Spot) (others : Making (List A)) → word ≡ front ++ back → One (is_sign sign.Comma) front s → Listed close L back others
+        → m ≡ then_made second s others → BehindItem close L word m
 
 -- ---- expressions; un, expr and block are what stands within
 
@@ -296,8 +297,8 @@ module _ (un expr : Rule Expr) (block : Rule Statement) where
   pub data IsPrimary (word : List Token) (e : Making Expr) : Type 0 where
     of_literal : One literal_or_mixed word e → IsPrimary word e
     in_group : Seq (λ s x. at s (Node.Group x)) (One (is_sign sign.OpenParen)) (Ending expr (is_sign sign.CloseParen)) word e → IsPrimary word e
-    in_list : Seq (λ s es. at s (Node.List es)) (One (is_sign sign.OpenBracket)) (Map (Listed sign.CloseBracket expr) closed) word e → IsPrimary word e
-    in_object : Seq (λ s ms. at s (Node.Object ms)) (One (is_sign sign.OpenBrace)) (Map (Listed sign.CloseBrace IsEntry) closed) word e → IsPrimary word e
+    in_list : Seq (λ s es. at s (Node.List es)) (One (is_sign sign.OpenBracket)) (Listed sign.CloseBracket expr) word e → IsPrimary word e
+    in_object : Seq (λ s ms. at s (Node.Object ms)) (One (is_sign sign.OpenBrace)) (Listed sign.CloseBrace IsEntry) word e → IsPrimary word e
     call : Seq (λ n es. at n.1 (Node.Call n.0 es)) (One name) Arguments word e → IsPrimary word e
     var_call : Seq (λ v es. at v.1 (Node.VarCall v.0 es)) (One var) Arguments word e → IsPrimary word e
     lambda : Map (Seq pair (One (is_word (codes "function"))) (Seq pair Params block)) (lambda_made (λ x n. at x.0 (Node.Lambda n)) (λ x. function_of x.1)) word e → IsPrimary word e
@@ -409,36 +410,26 @@ abbrev pub BeginsNoBlock : List Token → Type 0
 BeginsNoBlock [] = Unit {0}
 BeginsNoBlock (t ∷ ts) = code t ≡ 12 → ⊥
 
--- whether a statement, of nesting at most the number, ends with an `if` that has no `else`
-abbrev pub ends_open_in : (Statement → Bool) → StatementLayer → Bool
-ends_open_in within (Kind-F.If bs None) = true
-ends_open_in within (Kind-F.If bs (Some other)) = within other
-ends_open_in within (Kind-F.While e body) = within body
-ends_open_in within (Kind-F.For first e last body) = within body
-ends_open_in within (Kind-F.Foreach e key value body) = within body
-ends_open_in within Kind-F.Empty = false
-ends_open_in within (Kind-F.Block ss) = false
-ends_open_in within (Kind-F.Print es) = false
-ends_open_in within (Kind-F.Expr e) = false
-ends_open_in within (Kind-F.Return e) = false
-ends_open_in within Kind-F.Break = false
-ends_open_in within Kind-F.Continue = false
-
-abbrev pub ends_open : ℕ → Statement → Bool
-ends_open zero s = false
-ends_open (suc k) s = ends_open_in (ends_open k) (kind_of s)
-
 abbrev pub branch_of : Expr → Statement → Branch
 branch_of e s = record { test = e; body = s }
 
--- no `else` could belong to an `if` in the branch
-abbrev pub IsClosed : (Statement → Bool) → Making Branch → Type 0
-IsClosed mark b = mark ((b 0 0).made).body ≡ false
+-- a branch before the others, and before what is behind `else`
+abbrev pub with_branch : Branch → List Branch × Option Statement → List Branch × Option Statement
+with_branch b others = (b ∷ others.0, others.1)
 
--- what is behind `else`
-abbrev pub option_made : Option (Making Statement) → Making (Option Statement)
-option_made None = nothing None
-option_made (Some s) = mapped (λ t. Some t) s
+abbrev pub no_branch : List Branch × Option Statement
+no_branch = ([], None)
+
+abbrev pub otherwise : Statement → List Branch × Option Statement
+otherwise s = ([], Some s)
+
+-- Statements that are open, which end with an `if` that has no `else`, and those that are not.
+abbrev pub Statements : Type 1
+Statements = Bool → Rule Statement
+
+-- open or not
+abbrev pub AnyOf : Statements → Rule Statement
+AnyOf stmt word s = (is_open : Bool) × stmt is_open word s
 
 -- VAR [ , VAR ]: the value's variable, or those of the key and the value
 abbrev pub key_and_value : Bytes → Option Bytes → Option Bytes × Bytes
@@ -448,27 +439,28 @@ key_and_value v (Some w) = (Some v, w)
 abbrev pub VarName : Rule Bytes
 VarName = Map (One var) (mapped (λ v. v.0))
 
-module _ (expr inner : Rule Expr) (stmt : Rule Statement) (block : Rule Statement) (mark : Statement → Bool) where
+mutual
+  -- a branch and what is behind it
+  pub data IsBranches (branch : Bool → Rule Branch) (stmt : Statements) (is_open : Bool) : List Token → Making (List Branch × Option Statement) → Type 0 where
+    a_branch : {word : List Token} {m : Making (List Branch × Option Statement)} (first_open : Bool) (front back : List Token) (b : Making Branch) (others : Making (List Branch × Option Statement)) → word ≡ front ++ back
+        → branch first_open front b → BehindBranch branch stmt is_open first_open back others → m ≡ then_made with_branch b others → IsBranches branch stmt is_open word m
+
+  -- An `else` or `elseif` belongs to the nearest `if` that can have it, so none stands behind a branch whose statement is open.
+  pub data BehindBranch (branch : Bool → Rule Branch) (stmt : Statements) (is_open : Bool) : Bool → List Token → Making (List Branch × Option Statement) → Type 0 where
+    no_else : {first_open : Bool} {word : List Token} {m : Making (List Branch × Option Statement)} → is_open ≡ true → Nothing (nothing no_branch) word m → BehindBranch branch stmt is_open first_open word m
+    with_else : {first_open : Bool} {word : List Token} {m : Making (List Branch × Option Statement)} → first_open ≡ false → Map (Before (is_word (codes "else")) (stmt is_open)) (mapped otherwise) word m
+        → BehindBranch branch stmt is_open first_open word m
+    with_elseif : {first_open : Bool} {word : List Token} {m : Making (List Branch × Option Statement)} (front back : List Token) (s : Making Spot) (others : Making (List Branch × Option Statement)) → first_open ≡ false
+        → word ≡ front ++ back → One (is_word (codes "elseif")) front s → IsBranches branch stmt is_open back others → m ≡ then_made second s others → BehindBranch branch stmt is_open first_open word m
+
+module _ (expr inner : Rule Expr) (stmt : Statements) (block : Rule Statement) where
   -- ( expr )
   abbrev pub InParens : Rule Expr
   InParens = Ending (Before (is_sign sign.OpenParen) inner) (is_sign sign.CloseParen)
 
   -- ( expr ) stmt
-  abbrev pub IsBranch : Rule Branch
-  IsBranch = Seq branch_of InParens stmt
-
-  -- branches behind `if` and `elseif`, and what is behind `else`; a statement with `elseif` or `else` behind it ends with no `if` that could have it
-  abbrev pub Branches : Rule Branch → List Token → List (Making Branch) → Option (Making Statement) → Type 0
-  Branches L word [] o = ⊥
-  Branches L word (b ∷ []) None = L word b
-  Branches L word (b ∷ []) (Some s) = (front : List Token) × (back : List Token) × (word ≡ front ++ back) × L front b × IsClosed mark b × Before (is_word (codes "else")) stmt back s
-  Branches L word (b ∷ c ∷ cs) o = (front : List Token) × (back : List Token) × (word ≡ front ++ back) × L front b × IsClosed mark b × Branches (Before (is_word (codes "elseif")) IsBranch) back (c ∷ cs) o
-
-  pub record IsBranches (word : List Token) (m : Making (List Branch × Option Statement)) : Type 0 where
-    pub branches : List (Making Branch)
-    pub other : Option (Making Statement)
-    pub is_word : Branches IsBranch word branches other
-    pub is_value : m ≡ then_made pair (all_made branches) (option_made other)
+  abbrev pub IsBranch : Bool → Rule Branch
+  IsBranch is_open = Seq branch_of InParens (stmt is_open)
 
   -- ( [exprs] ; [expr] ; [exprs] )
   abbrev pub ForHead : Rule (List Expr × (Option Expr × List Expr))
@@ -480,22 +472,27 @@ module _ (expr inner : Rule Expr) (stmt : Rule Statement) (block : Rule Statemen
   ForeachHead = Seq pair (Ending (Before (is_sign sign.OpenParen) inner) (is_word (codes "as")))
       (Ending (Seq key_and_value VarName (Perhaps (Before (is_sign sign.Comma) VarName))) (is_sign sign.CloseParen))
 
-  pub data IsStatement (word : List Token) (s : Making Statement) : Type 0 where
-    empty : Map (One (is_sign sign.Semicolon)) (mapped (λ p. stands p Kind.Empty)) word s → IsStatement word s
-    of_block : block word s → IsStatement word s
-    printing : Seq (λ p es. stands p (Kind.Print es)) (One (is_word (codes "print"))) (Ending (Commas expr) (is_sign sign.Semicolon)) word s → IsStatement word s
-    of_expr : BeginsNoBlock word → Map (Ending expr (is_sign sign.Semicolon)) (mapped expr_statement) word s → IsStatement word s
-    of_if : Seq (λ p x. stands p (Kind.If x.0 x.1)) (One (is_word (codes "if"))) IsBranches word s → IsStatement word s
-    of_while : Seq (λ p x. stands p (Kind.While x.0 x.1)) (One (is_word (codes "while"))) (Seq pair InParens stmt) word s → IsStatement word s
-    of_for : Seq (λ p x. stands p (Kind.For x.0.0 x.0.1.0 x.0.1.1 x.1)) (One (is_word (codes "for"))) (Seq pair ForHead stmt) word s → IsStatement word s
-    of_foreach : Seq (λ p x. stands p (Kind.Foreach x.0.0 x.0.1.0 x.0.1.1 x.1)) (One (is_word (codes "foreach"))) (Seq pair ForeachHead stmt) word s → IsStatement word s
-    returning : Seq (λ p e. stands p (Kind.Return e)) (One (is_word (codes "return"))) (Ending (Perhaps expr) (is_sign sign.Semicolon)) word s → IsStatement word s
-    breaking : Map (Ending (One (is_word (codes "break"))) (is_sign sign.Semicolon)) (mapped (λ p. stands p Kind.Break)) word s → IsStatement word s
-    continuing : Map (Ending (One (is_word (codes "continue"))) (is_sign sign.Semicolon)) (mapped (λ p. stands p Kind.Continue)) word s → IsStatement word s
+  -- statements that end with a sign
+  pub data IsSimple (word : List Token) (s : Making Statement) : Type 0 where
+    empty : Map (One (is_sign sign.Semicolon)) (mapped (λ p. stands p Kind.Empty)) word s → IsSimple word s
+    of_block : block word s → IsSimple word s
+    printing : Seq (λ p es. stands p (Kind.Print es)) (One (is_word (codes "print"))) (Ending (Commas expr) (is_sign sign.Semicolon)) word s → IsSimple word s
+    of_expr : BeginsNoBlock word → Map (Ending expr (is_sign sign.Semicolon)) (mapped expr_statement) word s → IsSimple word s
+    returning : Seq (λ p e. stands p (Kind.Return e)) (One (is_word (codes "return"))) (Ending (Perhaps expr) (is_sign sign.Semicolon)) word s → IsSimple word s
+    breaking : Map (Ending (One (is_word (codes "break"))) (is_sign sign.Semicolon)) (mapped (λ p. stands p Kind.Break)) word s → IsSimple word s
+    continuing : Map (Ending (One (is_word (codes "continue"))) (is_sign sign.Semicolon)) (mapped (λ p. stands p Kind.Continue)) word s → IsSimple word s
+
+  -- a loop is open where its body is
+  pub data IsStatement (is_open : Bool) (word : List Token) (s : Making Statement) : Type 0 where
+    simple : is_open ≡ false → IsSimple word s → IsStatement is_open word s
+    of_if : Seq (λ p x. stands p (Kind.If x.0 x.1)) (One (is_word (codes "if"))) (IsBranches IsBranch stmt is_open) word s → IsStatement is_open word s
+    of_while : Seq (λ p x. stands p (Kind.While x.0 x.1)) (One (is_word (codes "while"))) (Seq pair InParens (stmt is_open)) word s → IsStatement is_open word s
+    of_for : Seq (λ p x. stands p (Kind.For x.0.0 x.0.1.0 x.0.1.1 x.1)) (One (is_word (codes "for"))) (Seq pair ForHead (stmt is_open)) word s → IsStatement is_open word s
+    of_foreach : Seq (λ p x. stands p (Kind.Foreach x.0.0 x.0.1.0 x.0.1.1 x.1)) (One (is_word (codes "foreach"))) (Seq pair ForeachHead (stmt is_open)) word s → IsStatement is_open word s
 
 -- block : { {stmt} }
-abbrev pub IsBlock : Rule Statement → Rule Statement
-IsBlock stmt = Seq (λ p ss. stands p (Kind.Block ss)) (One (is_sign sign.OpenBrace)) (Ending (Repeat stmt) (is_sign sign.CloseBrace))
+abbrev pub IsBlock : Statements → Rule Statement
+IsBlock stmt = Seq (λ p ss. stands p (Kind.Block ss)) (One (is_sign sign.OpenBrace)) (Ending (Repeat (AnyOf stmt)) (is_sign sign.CloseBrace))
 
 -- ---- nesting at most the number
 
@@ -512,10 +509,10 @@ unfoldable mutual
   BlockWithin zero word s = ⊥
   BlockWithin (suc k) word s = IsBlock (StatementWithin k) word s
 
-  pub StatementWithin : ℕ → List Token → Making Statement → Type 0
-  StatementWithin zero word s = ⊥
-  StatementWithin (suc k) word s =
-      IsStatement (IsExpr (UnaryWithin k) (ExprWithin k) (BlockWithin k)) (ExprWithin k) (StatementWithin k) (IsBlock (StatementWithin k)) (ends_open k) word s
+  pub StatementWithin : ℕ → Bool → List Token → Making Statement → Type 0
+  StatementWithin zero is_open word s = ⊥
+  StatementWithin (suc k) is_open word s =
+      IsStatement (IsExpr (UnaryWithin k) (ExprWithin k) (BlockWithin k)) (ExprWithin k) (StatementWithin k) (IsBlock (StatementWithin k)) is_open word s
 
 -- ---- programs
 
@@ -536,5 +533,5 @@ pub data IsItem (block stmt : Rule Statement) (word : List Token) (i : Making It
 
 -- a definition has one level more than its block
 abbrev pub ItemWithin : ℕ → Rule Item
-ItemWithin zero = IsItem (BlockWithin zero) (StatementWithin zero)
-ItemWithin (suc k) = IsItem (BlockWithin k) (StatementWithin (suc k))
+ItemWithin zero = IsItem (BlockWithin zero) (AnyOf (StatementWithin zero))
+ItemWithin (suc k) = IsItem (BlockWithin k) (AnyOf (StatementWithin (suc k)))
