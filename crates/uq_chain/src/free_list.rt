@@ -27,6 +27,7 @@ fn grow_page<P: Pages>(p: &mut P, h: &mut Header, page: &Page) -> Result<u32, Ch
     ensures larger { OnOk result (P.size p.new ≡ P.size p.old + 1) }
     ensures grown { OnOk result (P.pages p.new ≡ option_map (λ pages. pages ++ bytes_of page.now ∷ []) (P.pages p.old)) }
     ensures list { OnOk result (h.new.free ≡ h.old.free) }
+    ensures most { P.size p.new ≤ P.size p.old + 1 }
     ensures asked { P.asked p.new ≡ P.asked p.old }
     ensures keeps { P.keeps p.old p.new }
     ensures cause { HasChainCause (NoFreeList (P.pages p.old) h.old.free)
@@ -82,6 +83,7 @@ pub fn take_page<P: Pages>(p: &mut P, h: &mut Header) -> Result<u32, ChainFault>
     ensures count { OnOk result (KeepsCount h.old h.new (P.size p.old) (P.size p.new)) }
     ensures told { UnlessErr ChainFault.Failed result (is_some (P.pages p.new) ≡ is_some (P.pages p.old)) }
     ensures size { P.size p.old ≤ P.size p.new }
+    ensures most { P.size p.new ≤ P.size p.old + 1 }
     ensures asked { P.asked p.new ≤ P.asked p.old + 1 }
     ensures keeps { P.keeps p.old p.new }
     ensures cause { HasChainCause (NoFreeList (P.pages p.old) h.old.free)
@@ -108,6 +110,7 @@ pub fn place_page<P: Pages>(p: &mut P, h: &mut Header, page: &Page) -> Result<u3
     ensures count { OnOk result (KeepsCount h.old h.new (P.size p.old) (P.size p.new)) }
     ensures told { UnlessErr ChainFault.Failed result (is_some (P.pages p.new) ≡ is_some (P.pages p.old)) }
     ensures size { P.size p.old ≤ P.size p.new }
+    ensures most { P.size p.new ≤ P.size p.old + 1 }
     ensures asked { P.asked p.new ≤ P.asked p.old + 1 }
     ensures keeps { P.keeps p.old p.new }
     ensures cause { HasChainCause (NoFreeList (P.pages p.old) h.old.free)

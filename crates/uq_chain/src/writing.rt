@@ -42,6 +42,7 @@ pub fn write_chain<P: Pages>(p: &mut P, h: &mut Header, bytes: &[u8]) -> Result<
     ensures count { OnOk result (KeepsCount h.old h.new (P.size p.old) (P.size p.new)) }
     ensures told { UnlessErr ChainFault.Failed result (is_some (P.pages p.new) ≡ is_some (P.pages p.old)) }
     ensures size { P.size p.old ≤ P.size p.new }
+    ensures most { P.size p.new ≤ P.size p.old + pages_for (length bytes.now) }
     ensures asked { P.asked p.new ≤ P.asked p.old + pages_for (length bytes.now) }
     ensures keeps { P.keeps p.old p.new }
     ensures cause { HasChainCause (NoFreeList (P.pages p.old) h.old.free)

@@ -21,6 +21,7 @@ invariant-loop-end g l = record {
   fits : l.next < 2 ^ 32;
   pages : ℕ;
   asked : g.P.Pages.asked l.p + pages ≤ g.P.Pages.asked l.fn.p + pages_for (length l.bytes);
+  most : g.P.Pages.size l.p + pages ≤ g.P.Pages.size l.fn.p + pages_for (length l.bytes);
   cut : Cut (length l.bytes) l.end pages;
   number : l.end < length l.bytes → 1 ≤ l.next;
   written : ForSome (g.P.Pages.pages l.fn.p) (λ before. (free : List ℕ) → IsFreeList before l.fn.h.free free → ForSome (g.P.Pages.pages l.p) (λ now. IsWritten before now l.h.free free l.next (drop l.end l.bytes)));
