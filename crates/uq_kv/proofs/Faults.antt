@@ -1,5 +1,5 @@
 -- Why a store answers a fault of the pages.
-use Rattle.std.proofs.Common.{◌≡◌, ℕ, Bool, List, Option, Some, None, Ok, Err, refl, sym, ap, subst, ◌∙◌}
+use Rattle.std.proofs.Common.{◌≡◌, Bool, Option, Some, None, Err, refl, sym, ap, ◌∙◌}
 use Rattle.std.specs.Prelude.{Result}
 use Rattle.uq_outside.specs.declared.disk.Disk.{Ghosts}
 use Rattle.uq_page.specs.declared.error.ChainFault.{ChainFault}
@@ -9,7 +9,7 @@ use Rattle.uq_model.specs.declared.cause.Cause.{Cause}
 use Rattle.uq_kv.specs.declared.error.KvFault.{KvFault}
 use Rattle.uq_kv.specs.declared.kv.Kv.{Kv}
 use Rattle.uq_kv.specs.Calls.{cause_of, closed_by, stop_of}
-use Rattle.uq_kv.specs.Kv.{HasCauses, Tells, closed_of, disk_of}
+use Rattle.uq_kv.specs.Kv.{HasCauses, closed_of, disk_of}
 use Rattle.uq_kv.specs.Writing.{HasStoreCause}
 use Rattle.uq_kv.proofs.Telling.{told_present}
 

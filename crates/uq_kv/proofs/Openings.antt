@@ -1,11 +1,11 @@
 -- What an opening finds.
 use Rattle.std.proofs.Common.{◌≡◌, ℕ, ◌≤◌, List, [], ◌∷◌, length, Option, Some, None, inl, inr, refl, sym, ap, subst, ◌∙◌, arith}
 use Rattle.std.specs.Prelude.{slice_get}
-use Rattle.std.specs.Option.{ForSome, option_and_then, option_map}
+use Rattle.std.specs.Option.{option_and_then, option_map}
 use Rattle.uq_outside.specs.declared.disk.Disk.{Ghosts}
 use Rattle.uq_outside.specs.declared.fault.FileNo.TheVariants.{Main}
 use Rattle.uq_outside.specs.Files.{Files, Keeps}
-use Rattle.uq_outside.specs.Since.{Laws, Steps}
+use Rattle.uq_outside.specs.Since.{Laws}
 use Rattle.uq_outside.specs.SinceLaws.{steps_on, steps_weaker}
 use Rattle.uq_page.specs.Header.{IsHeader}
 use Rattle.uq_page.specs.declared.header.Header.{Header}

@@ -1,9 +1,8 @@
 -- An entry put in, and the header on page 0.
-use Rattle.std.proofs.Common.{◌≡◌, ℕ, ◌*◌, ◌+◌, ◌<◌, ◌≤◌, Bool, true, List, [], ◌∷◌, length, Option, Some, None, inl, inr, refl, sym, ap, subst, ◌∙◌, arith}
-use Rattle.std.specs.Prelude.{Result, Ok, Err, IfOk, OnOk, is_some, slice_set}
+use Rattle.std.proofs.Common.{◌≡◌, ℕ, ◌≤◌, Bool, true, List, [], ◌∷◌, length, Option, Some, None, inl, inr, refl, sym, ap, subst, ◌∙◌, arith}
+use Rattle.std.specs.Prelude.{Result, Ok, Err, IfOk, is_some, slice_set}
 use Rattle.std.specs.Option.{ForSome, option_map}
 use Rattle.std.specs.FinMap.{empty_of_len, insert}
-use Rattle.std.proofs.lemmas.List.{length-set}
 use Rattle.uq_page.specs.Header.{IsHeader}
 use Rattle.uq_page.specs.declared.header.Header.{Header}
 use Rattle.uq_page.specs.declared.layout.TheConstants.{CELLS_ROOM}
@@ -14,8 +13,7 @@ use Rattle.uq_page.specs.declared.error.ChainFault.TheVariants.{Failed}
 use Rattle.uq_hash.specs.Laws.{ApartFromHeader}
 use Rattle.uq_hash.specs.Map.{HoldsMap, IsCreated, WhereHeld, cells_len}
 use Rattle.uq_pager.specs.Lists.{get_set_here}
-use Rattle.uq_kv.specs.Database.{IsKept, WhereKept, WhereStored}
-use Rattle.uq_kv.specs.Stored.{IsWithinLimits, Stored}
+use Rattle.uq_kv.specs.Database.{WhereKept, WhereStored}
 use Rattle.uq_kv.specs.Writing.{AreDatabase, AreKept, HasStoreCause, HoldsNow}
 use Rattle.uq_kv.proofs.Databases.{kept}
 use Rattle.uq_kv.proofs.Sums.{cells_by}

@@ -1,5 +1,5 @@
 -- What a stop leaves of a store.
-use Rattle.std.proofs.Common.{◌≡◌, ◌⊎◌, ℕ, List, Some, inl, inr, ⊎_elim, sym, ap, ◌∙◌}
+use Rattle.std.proofs.Common.{◌≡◌, Some, inl, inr, ⊎_elim, ap, ◌∙◌}
 use Rattle.std.specs.Borrow.{MutBor}
 use Rattle.std.specs.Option.{option_and_then}
 use Rattle.uq_outside.specs.declared.disk.Disk.{Ghosts}
@@ -9,7 +9,7 @@ use Rattle.uq_outside.specs.SinceLaws.{started, weaker}
 use Rattle.uq_journal.specs.Calls.{RecoversAs, recovered_pages}
 use Rattle.uq_journal.specs.Pages.{pages_of}
 use Rattle.uq_pager.specs.Keeps.{KeepsDisk}
-use Rattle.uq_pager.specs.Paged.{Paged, RecoversToOne}
+use Rattle.uq_pager.specs.Paged.{RecoversToOne}
 use Rattle.uq_pager.specs.PagerLaws.{is_committed}
 use Rattle.uq_model.specs.Session.{Session}
 use Rattle.uq_kv.specs.declared.kv.Kv.{Kv}

@@ -1,5 +1,5 @@
 -- What a store tells, by what its pager tells.
-use Rattle.std.proofs.Common.{◌≡◌, ℕ, true, List, Option, Some, None, subst, refl, sym, ap, ◌∙◌}
+use Rattle.std.proofs.Common.{◌≡◌, ℕ, true, List, Option, Some, None, subst, sym, ap, ◌∙◌}
 use Rattle.std.specs.Option.{option_map}
 use Rattle.uq_outside.specs.declared.disk.Disk.{Ghosts}
 use Rattle.uq_journal.specs.Pages.{with_batch}

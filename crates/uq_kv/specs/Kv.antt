@@ -1,5 +1,5 @@
 -- What contracts see of a store over a disk.
-use Rattle.std.specs.Prelude.{◌≡◌, ◌↔◌, ℕ, ◌≤◌, Bool, false, List, Option, Some, None, Result, Err, IsTrue}
+use Rattle.std.specs.Prelude.{◌≡◌, ◌↔◌, ◌≤◌, Bool, false, Option, Some, None, Result, Err, IsTrue}
 use Rattle.std.specs.Borrow.{MutBor}
 use Rattle.uq_facts.specs.Causes.{AtErr, Rose, UnlessErr}
 use Rattle.uq_outside.specs.declared.disk.Disk.{Ghosts}

@@ -4,6 +4,7 @@ pub mod Faults
 pub mod Full
 pub mod Holds
 pub mod Kv
+pub mod KvLaws
 pub mod Opening
 pub mod Stored
 pub mod Writing

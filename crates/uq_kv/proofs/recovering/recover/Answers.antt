@@ -1,6 +1,5 @@
-use Rattle.std.proofs.Common.{◌≡◌, Some, ap, sym, arith, ◌∙◌}
+use Rattle.std.proofs.Common.{sym, arith, ◌∙◌}
 use Rattle.uq_page.specs.Page.{bytes_of}
-use Rattle.uq_page.specs.declared.header.Header.{Header}
 use Rattle.uq_kv.proofs.Openings.{database_empty, database_read, header_there, main_behind, pages_still, shape_empty, shape_named}
 use Rattle.uq_pager.specs.KeepsLaws.{gate_on}
 use Rattle.uq_outside.specs.Since.{Laws}

@@ -1,4 +1,4 @@
-use Rattle.std.proofs.Common.{ℕ, ◌≤◌, length, Err, refl, ap, sym, subst, arith}
+use Rattle.std.proofs.Common.{◌≤◌, length, Err, refl, ap, sym, subst, arith}
 use Rattle.std.proofs.lemmas.Bool.Decides.{nat_tests}
 use Rattle.uq_kv.specs.Kv.{Tells}
 use Rattle.uq_kv.proofs.Faults.{stopped}

@@ -1,4 +1,3 @@
-use Rattle.std.proofs.Common.{Err, ap, ◌∙◌}
 use Rattle.std.proofs.lemmas.Result.{err_from_is_err_and}
 use Rattle.uq_kv.proofs.kv.Kv.open.Goals as goal
 
