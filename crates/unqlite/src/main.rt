@@ -3,8 +3,8 @@
 
 use std::process::ExitCode;
 use std::{env, io};
-use uq_outside::{FileDisk, Sink, StdSink, StdSource};
-use uq_shell::{Status, run};
+use uq_outside::{FileDisk, StdSink, StdSource};
+use uq_shell::{Status, put_line, run};
 
 fn main(rt: HostRuntime) -> ExitCode {
     let mut out = StdSink::new(rt.stdout());
@@ -22,11 +22,11 @@ fn main(rt: HostRuntime) -> ExitCode {
             .status
         }
         Err(_) => {
-            let _ = out.put(Status::Memory.line());
+            let _ = put_line(rt.alloc(), Status::Memory.text(), None, &mut out);
             Status::Memory
         }
     };
-    ExitCode::from(status as u8)
+    ExitCode::from(status.number())
 }
 
 /// The words behind the name of the program. One that is not UTF-8 makes them words in no form.

@@ -1,151 +1,152 @@
--- A reply, and the commit behind it.
-use Rattle.std.proofs.Common.{◌≡◌, ℕ, zero, suc, ◌≤◌, Bool, true, false, List, [], ◌∷◌, ◌++◌, length, take, Option, Some, None, inl, inr, refl, sym, ap, subst, ◌∙◌, arith, Vec, Global}
-use Rattle.std.proofs.lemmas.List.{append-nil}
-use Rattle.std.proofs.Math.Seq.{take-length}
-use Rattle.std.specs.Prelude.{◌==◌, slice_get, IsTrue, if◌then◌else◌}
-use Rattle.std.specs.List.{flat_map}
-use Rattle.std.specs.FinMap as map
+-- A command over a store on which nothing is begun: it is answered, or the run ends.
+use Rattle.std.proofs.Common.{◌≡◌, ◌⊎◌, ◌≤◌, ℕ, ◌+◌, false, take, None, Result, Ok, Err, inl, inr, refl, sym, ap, subst, ◌∙◌, arith}
+use Rattle.std.specs.Prelude.{IsTrue}
+use Rattle.std.specs.Borrow.{MutBor}
 use Rattle.uq_facts.specs.Causes.{Rose}
-use Rattle.uq_outside.specs.Streams.{Grows}
-use Rattle.uq_shell.specs.Store.{Store, Session, opened}
-use Rattle.uq_shell.specs.Line.{last_byte, line_after}
-use Rattle.uq_json.specs.Quote.{quoted}
-use Rattle.uq_shell.specs.Command.{Answer, Event, Out, Commit, FetchKey, answer}
-use Rattle.uq_shell.specs.Keeps.{Keeps}
-use Rattle.uq_shell.specs.Followed.{EndsInLine, is_unanswered, ending_of, line_behind}
-use Rattle.uq_shell.specs.Headline.{IsCommitUnderWay, Meets, is_whole}
-use Rattle.uq_shell.specs.Obeying.{Answers, IsLine, Settles}
-use Rattle.uq_shell.specs.Reply.{line_of}
-use Rattle.uq_shell.specs.Run.{obeyed, output, bytes_of, commit_at_end}
-use Rattle.uq_shell.specs.declared.database.Database.{Database}
-use Rattle.uq_shell.specs.declared.reply.Reply.{Reply}
-use Rattle.uq_shell.specs.Written.{Writes}
+use Rattle.uq_outside.specs.declared.disk.Disk as disk
+use Rattle.uq_outside.specs.declared.sink.Sink as sink
+use Rattle.uq_outside.specs.Since.{Laws, LeavesOnly}
+use Rattle.uq_outside.specs.SinceLaws.{at_end, goes_on, weaker}
+use Rattle.uq_journal.specs.Calls.{IsStill}
+use Rattle.uq_model.specs.Session.{Session, opened}
+use Rattle.uq_kv.specs.Holds.{LeavesNow, RecoversTo, RecoversToEither}
+use Rattle.uq_kv.specs.Kv.{Tells, disk_of, is_begun_of, limits_of}
+use Rattle.uq_kv.specs.KvLaws.{holds_saved}
+use Rattle.uq_kv.specs.Stored.{Stored}
+use Rattle.uq_kv.specs.declared.kv.Kv.{Kv}
+use Rattle.uq_shell.specs.Answers.{DoesAsAsked, Leaves, LeavesAlike, request_of}
+use Rattle.uq_shell.specs.Ends.{Ends, Says, Serves, TellsLast, Writes, first_said}
+use Rattle.uq_shell.specs.Followed.{FollowedBefore, Last, some_line}
+use Rattle.uq_shell.specs.Headline.{IsComplete, IsQuiet}
+use Rattle.uq_shell.specs.Run.{Outcome, obeyed}
+use Rattle.uq_shell.specs.Statuses.{row}
+use Rattle.uq_shell.specs.declared.answering.Answer.{Answer}
+use Rattle.uq_shell.specs.declared.command.Command.{Command}
 use Rattle.uq_shell.specs.declared.ended.Ended.{Ended}
 use Rattle.uq_shell.specs.declared.status.Status.{Status}
-use Rattle.uq_shell.specs.declared.status.Status.TheVariants.{Done, Refused, Usage, Memory, Disk, NotDatabase, Stream}
-use Rattle.uq_shell.specs.declared.reply.Reply.TheVariants as reply
-use Rattle.uq_shell.proofs.Endings.{Wrote}
-use Rattle.uq_shell.proofs.Endings as endings
+use Rattle.uq_shell.specs.declared.status.Status.TheVariants.{Usage, Memory, Disk, Stream, NotDatabase}
+use Rattle.uq_shell.proofs.Doing.{saved_entry}
+use Rattle.uq_shell.proofs.Meeting.{meets_ended}
+use Rattle.uq_shell.proofs.Serving.{entry_only, obeyed_is, saves_entry}
 
--- a line ends with its line feed
-pub last_byte-append : (bytes : List ℕ) (byte : ℕ) → last_byte (bytes ++ byte ∷ []) ≡ Some byte
-last_byte-append [] byte = refl
-last_byte-append (x ∷ []) byte = refl
-last_byte-append (x ∷ y ∷ bytes) byte = last_byte-append (y ∷ bytes) byte
+-- the count rose earlier too
+pub rose_later : (old mid new : ℕ) → old ≤ mid → Rose mid new → Rose old new
+rose_later old mid new later rose = omega (arith, later, rose)
 
--- behind a line nothing is owed
-pub line_behind-line : (line text : List ℕ) → last_byte line ≡ Some 0x0a → line_behind line text ≡ line_behind [] text
-line_behind-line line [] is = refl
-line_behind-line line (byte ∷ bytes) is = ap (λ (last : Option ℕ). line_after last (byte ∷ bytes)) is
+-- a fault of the store ends a run with a status of these
+abbrev pub IsCut : Status → Type 0
+IsCut status = (status ≡ Disk) ⊎ ((status ≡ NotDatabase) ⊎ (status ≡ Memory))
 
-output-commit : (begun : Bool) (present : Store) (n : ℕ) → flat_map bytes_of (take n (if begun then Commit present ∷ [] else [])) ≡ []
-output-commit true present zero = refl
-output-commit true present (suc zero) = refl
-output-commit true present (suc (suc n)) = refl
-output-commit false present zero = refl
-output-commit false present (suc n) = refl
+-- P, where it holds of each of the three
+by_cut : (P : Status → Type 0) → P Disk → P NotDatabase → P Memory → (status : Status) → IsCut status → P status
+by_cut P disk none memory status (inl is) = subst P (sym is) disk
+by_cut P disk none memory status (inr (inl is)) = subst P (sym is) none
+by_cut P disk none memory status (inr (inr is)) = subst P (sym is) memory
 
-pub output-replied : (line : List ℕ) (session : Session) (n : ℕ) → 1 ≤ n → output n (Out line ∷ [] ++ commit_at_end session) ≡ line
-output-replied line session zero some = absurd (omega arith)
-output-replied line session (suc n) some = ap (λ rest. line ++ rest) (output-commit session.begun session.present n) ∙ append-nil line
+pub cut_whole : (status : Status) → IsCut status → IsTrue (row status).is_whole → ⊥
+cut_whole = by_cut (λ status. IsTrue (row status).is_whole → ⊥) (λ whole. cc) (λ whole. cc) (λ whole. cc)
 
--- what is begun is committed behind the reply
-committed : (begun : Bool) (present : Store) (line : List ℕ) → begun ≡ true → slice_get (Out line ∷ [] ++ (if begun then Commit present ∷ [] else [])) 1 ≡ Some (Commit present)
-committed true present line is = refl
-committed false present line is = cc
+pub cut_answered : (status : Status) → IsCut status → IsTrue (row status).is_answered → ⊥
+cut_answered = by_cut (λ status. IsTrue (row status).is_answered → ⊥) (λ answered. cc) (λ answered. cc) (λ answered. cc)
 
-pub under_way : (reply : Reply) (database : Database) (meant : Answer) → Answers reply database meant → database.is_begun ≡ true → IsCommitUnderWay (obeyed meant).events 1
-under_way reply database meant answers begun = rw (answers.line) (meant.session.present, committed meant.session.begun meant.session.present (line_of reply) (sym answers.begun ∙ begun))
+pub cut_usage : (status : Status) → IsCut status → status ≡ Usage → ⊥
+cut_usage = by_cut (λ status. status ≡ Usage → ⊥) (λ is. cc) (λ is. cc) (λ is. cc)
 
--- the data of a key, as a line
-pub answers_fetch : (key bytes : List ℕ) (store : Store) (database : Database) (line : Vec ℕ Global) → false ≡ (length key == 0) → Some bytes ≡ map.get store key → line.items ≡ line_after None (quoted bytes) → database.is_begun ≡ false → Keeps database store → Answers (reply.Data line) database (answer (FetchKey key) None (opened store))
-answers_fetch [] bytes store database line some found is begun keeps = cc
-answers_fetch (byte ∷ key) bytes store database line some found is begun keeps =
-    rw (← found) (record { line = ap (λ l. Out l ∷ []) (sym is); refusal = refl; begun = begun; keeps = keeps })
+pub cut_stream : (status : Status) → IsCut status → status ≡ Stream → ⊥
+cut_stream = by_cut (λ status. status ≡ Stream → ⊥) (λ is. cc) (λ is. cc) (λ is. cc)
 
-writes_weaker : (line : List ℕ) (x y : Option (List ℕ)) (rose wider : Type 0) → (rose → wider) → Writes line x y rose → Writes line x y wider
-writes_weaker line x y rose wider wide (inl all) = inl all
-writes_weaker line x y rose wider wide (inr part) = inr (wide part.0, part.1, part.2)
+module _ {D O : Type 0} (g : disk.Ghosts D) (o : sink.Ghosts O) (laws : Laws g) (it : Command) where
+  -- what was saved is there at any moment, however much is done
+  entry_before : (old new : Kv D g) (entry : Stored) (run : Outcome) (n : ℕ) (result : Result Answer Status) → Leaves g (request_of it) old new result → Tells g old (opened entry)
+      → LeavesOnly g (disk_of g old).now (disk_of g new).now (FollowedBefore entry run.events n)
+  entry_before old new entry run n result leaves tells =
+      weaker g (RecoversToEither entry _) (FollowedBefore entry run.events n) (disk_of g old).now (disk_of g new).now (λ files either. record {
+        stored = entry;
+        saved = saved_entry entry (take (n + 1) run.events);
+        recovers = entry_only it (limits_of g old) entry files either;
+      }) (leaves.stop (opened entry) tells)
 
--- a reply that was written, and what was written behind it
-pub served : (reply : Reply) (database : Database) (meant : Answer) (ended : Ended) (rose wider : Type 0) (x y z : Option (List ℕ)) → IsLine reply → Answers reply database meant → Settles meant ended → (rose → wider) → Grows (line_of reply) x y → Writes (line_behind [] (ending_of ended.status)) y z rose → (ended.status ≡ NotDatabase → ⊥) → Meets (obeyed meant) ended wider x z
-served reply database meant ended rose wider x y z fresh answers settles wide before line is_database =
-    let events : List Event = (obeyed meant).events in
-    let same : output ended.done events ≡ line_of reply = rw (answers.line) (output-replied (line_of reply) meant.session ended.done settles.replied) in
-    let behind : line_behind (output ended.done events) (ending_of ended.status) ≡ line_behind [] (ending_of ended.status) = ap (λ l. line_behind l (ending_of ended.status)) same ∙ line_behind-line (line_of reply) (ending_of ended.status) fresh in
-    let wrote : Wrote events ended.done ended.status wider x z =
-    endings.ended events ended.done ended.status wider x y z (subst (λ l. Grows l x y) (sym same) before) (subst (λ l. Writes l y z wider) (sym behind) (writes_weaker _ y z rose wider wide line)) in
-    record {
-      bytes = wrote.bytes;
-      grows = wrote.grows;
-      followed = wrote.followed;
-      exact = λ whole. settles.whole (λ is. absurd (cut_by_disk (subst (λ status. IsTrue (is_whole status)) is whole)));
-      is_database = is_database;
-    }
-  where
-    cut_by_disk : false ≡ true → ⊥
-    cut_by_disk is = cc
+  -- it is answered
+  pub serves_answer : (old mid new : Kv D g) (answer : Answer) (x z : O) (ended : Ended) → is_begun_of g old ≡ false → answer.commits ≡ false → DoesAsAsked g (request_of it) old mid answer
+      → Leaves g {T = Answer} (request_of it) old mid (Ok answer) → Says g o answer.reply mid new x z ended → Serves g o (request_of it) old new x z ended
+  serves_answer old mid new answer x z ended idle none does leaves says =
+      let first : g.faults (disk_of g old).now ≤ g.faults (disk_of g mid).now = leaves.later in
+      let next : g.faults (disk_of g mid).now ≤ g.faults (disk_of g new).now = says.anywhere.counts.disk in
+      let rose : Rose (g.faults (disk_of g mid).now) (g.faults (disk_of g new).now) → Rose (g.faults (disk_of g old).now) (g.faults (disk_of g new).now) = rose_later _ _ _ first in
+      record {
+        same_reference = says.same_reference ∙ leaves.same_reference;
+        ends = λ entry tells.
+            let behind : Ends g o entry (obeyed (request_of it) (limits_of g old) entry) 0 (disk_of g mid).now (disk_of g new).now x z ended =
+            there entry tells (λ saved run. Ends g o saved run 0 (disk_of g mid).now (disk_of g new).now x z ended)
+            (says.ends (after entry) (does (opened entry) tells).1 (now entry tells)) in
+            record {
+              meets = behind.meets;
+              recovers = record {
+                any_moment = goes_on g (FollowedBefore entry (obeyed (request_of it) (limits_of g old) entry).events ended.done) (disk_of g old).now (disk_of g mid).now (disk_of g new).now
+                    (entry_before old mid entry (obeyed (request_of it) (limits_of g old) entry) ended.done (Ok answer) leaves tells) behind.recovers.any_moment;
+                at_exit = behind.recovers.at_exit;
+              };
+              complete = λ quiet. behind.complete (record { disk = λ r. quiet.disk (rose r); sink = quiet.sink });
+            };
+        told = λ entry tells. there entry tells (λ saved run. TellsLast g o saved run new ended) (says.told (after entry) (does (opened entry) tells).1);
+        anywhere = record {
+          causes = record { disk = λ is. rose (says.anywhere.causes.disk is); stream = says.anywhere.causes.stream; not_database = λ is. absurd (says.anywhere.causes.not_database is) };
+          not_usage = says.anywhere.not_usage;
+          counts = record { disk = omega (arith, first, next); sink = says.anywhere.counts.sink };
+        };
+        kept = λ nothing. subst (λ (d : MutBor D). LeavesAlike g (disk_of g old).now d.now) (sym (says.unmoved nothing)) (leaves.kept idle);
+        reads = λ reads. subst (λ (d : MutBor D). IsStill g (disk_of g old).now d.now) (sym (says.idle (leaves.idle reads idle))) (leaves.still reads);
+      }
+    where
+      after : Stored → Session Stored
+      after entry = ((request_of it).does (limits_of g old) (opened entry)).1
 
-pub rose_later : (before mid now : ℕ) → before ≤ mid → Rose mid now → Rose before now
-rose_later before mid now le rose = omega arith
+      now : (entry : Stored) → Tells g old (opened entry) → LeavesNow g (disk_of g mid).now (after entry).saved
+      now entry tells files may =
+          let holds = holds_saved g mid (after entry) (does (opened entry) tells).1 in
+          subst (RecoversTo (after entry).saved) (sym (holds.settled files may)) holds.recovers
 
--- a run that writes nothing but the line of its status
-pub ends_first : (status : Status) (rose : Type 0) (x z : Option (List ℕ)) → Writes (line_behind [] (ending_of status)) x z rose → EndsInLine status rose x z
-ends_first status rose x z (inl all) = record {
-  replies = [];
-  count = length (line_behind [] (ending_of status));
-  grows = subst (λ l. Grows l x z) (sym (take-length (line_behind [] (ending_of status)))) all;
-  whole = λ _. take-length (line_behind [] (ending_of status));
-  no_reply = λ _. refl;
-}
-ends_first status rose x z (inr part) = record {
-  replies = [];
-  count = part.1;
-  grows = part.2;
-  whole = λ none. absurd (none part.0);
-  no_reply = λ _. refl;
-}
+      -- what is said of the first reply is said of what the words mean
+      there : (entry : Stored) → Tells g old (opened entry) → (P : Stored → Outcome → Type 0) → P (after entry).saved (first_said answer.reply (after entry)) → P entry (obeyed (request_of it) (limits_of g old) entry)
+      there entry tells P holds =
+          subst (λ (run : Outcome). P entry run) (sym (obeyed_is (request_of it) (limits_of g old) entry answer (does (opened entry) tells).0 none))
+          (subst (λ (saved : Stored). P saved (first_said answer.reply (after entry))) (saves_entry it (limits_of g old) entry) holds)
 
--- a reply, and the line of the status behind it
-pub ends_behind : (status : Status) (line : List ℕ) (rose wider : Type 0) (x y z : Option (List ℕ)) → last_byte line ≡ Some 0x0a → (IsTrue (is_unanswered status) → ⊥) → (rose → wider) → Grows line x y → Writes (line_behind [] (ending_of status)) y z rose → EndsInLine status wider x z
-ends_behind status line rose wider x y z fresh answered wide before (inl all) =
-    let own : line_behind line (ending_of status) ≡ line_behind [] (ending_of status) = line_behind-line line (ending_of status) fresh in
-    record {
-      replies = line;
-      count = length (line_behind line (ending_of status));
-      grows = endings.grows_on line _ x y z before (subst (λ l. Grows l y z) (sym own ∙ sym (take-length (line_behind line (ending_of status)))) all);
-      whole = λ _. take-length (line_behind line (ending_of status));
-      no_reply = λ is. absurd (answered is);
-    }
-ends_behind status line rose wider x y z fresh answered wide before (inr part) =
-    let own : line_behind line (ending_of status) ≡ line_behind [] (ending_of status) = line_behind-line line (ending_of status) fresh in
-    record {
-      replies = line;
-      count = part.1;
-      grows = endings.grows_on line _ x y z before (subst (λ l. Grows (take part.1 l) y z) (sym own) part.2);
-      whole = λ none. absurd (none (wide part.0));
-      no_reply = λ is. absurd (answered is);
-    }
-
--- a part of a reply
-pub ends_within : (line : List ℕ) (count : ℕ) (rose : Type 0) (x z : Option (List ℕ)) → Grows (take count line) x z → EndsInLine Stream rose x z
-ends_within line count rose x z part = record {
-  replies = take count line;
-  count = 0;
-  grows = subst (λ l. Grows l x z) (sym (append-nil (take count line))) part;
-  whole = λ _. refl;
-  no_reply = λ is. cc;
-}
-
-pub answered : (status : Status) → (status ≡ Usage → ⊥) → (status ≡ NotDatabase → ⊥) → IsTrue (is_unanswered status) → ⊥
-answered Usage usage none is = usage refl
-answered NotDatabase usage none is = none refl
-answered Done usage none is = cc
-answered Refused usage none is = cc
-answered Memory usage none is = cc
-answered Disk usage none is = cc
-answered Stream usage none is = cc
-
--- the line of some data
-pub data_line_ends : (it : Reply) (line : Vec ℕ Global) (bytes : List ℕ) → it ≡ reply.Data line → line.items ≡ line_after None (quoted bytes) → IsLine it
-data_line_ends it line bytes is items = rw (is, items) (last_byte-append (quoted bytes) 0x0a)
+  -- a fault of the store ends the run
+  pub serves_cut : (old new : Kv D g) (status : Status) (x z : O) → is_begun_of g old ≡ false → Leaves g {T = Answer} (request_of it) old new (Err status)
+      → Writes o (some_line None (row status).text) x z → o.faults x ≤ o.faults z
+      → Serves g o (request_of it) old new x z (record { status = status; done = 0 })
+  serves_cut old new status x z idle leaves line later = record {
+    same_reference = leaves.same_reference;
+    ends = λ entry tells.
+        let run : Outcome = obeyed (request_of it) (limits_of g old) entry in
+        record {
+          meets = meets_ended o run 0 x z status line (λ whole. absurd (cut_whole status leaves.others whole)) (λ is. leaves.corrupt (ap Err is) (opened entry) tells);
+          recovers = record {
+            any_moment = entry_before old new entry run 0 (Err status) leaves tells;
+            at_exit = λ files left. record {
+              stored = entry;
+              acknowledged = Last refl;
+              recovers = entry_only it (limits_of g old) entry files (at_end g (RecoversToEither entry _) laws.counts_now (disk_of g old).now (disk_of g new).now (leaves.stop (opened entry) tells) files left);
+            };
+          };
+          complete = λ quiet. complete entry tells quiet leaves.others;
+        };
+    told = λ entry tells answered. absurd (cut_answered status leaves.others answered);
+    anywhere = record {
+      causes = record {
+        disk = λ is. leaves.disk (ap Err is);
+        stream = λ is. absurd (cut_stream status leaves.others is);
+        not_database = λ is. leaves.corrupt (ap Err is);
+      };
+      not_usage = cut_usage status leaves.others;
+      counts = record { disk = leaves.later; sink = later };
+    };
+    kept = λ _. leaves.kept idle;
+    reads = leaves.still;
+  }
+    where
+      complete : (entry : Stored) → Tells g old (opened entry) → IsQuiet g o (disk_of g old).now (disk_of g new).now x z → IsCut status → IsComplete (obeyed (request_of it) (limits_of g old) entry) status
+      complete entry tells quiet (inl is) = absurd (quiet.disk (leaves.disk (ap Err is)))
+      complete entry tells quiet (inr (inl is)) = absurd (leaves.corrupt (ap Err is) (opened entry) tells)
+      complete entry tells quiet (inr (inr is)) = inr is

@@ -1,36 +1,22 @@
--- What was written after the first n events of a run, and an ending.
-use Rattle.std.specs.Prelude.{◌≡◌, ◌⊎◌, ℕ, Bool, true, false, IsTrue, List, [], ◌∷◌, ◌++◌, take, codes, slice_get, Option, Some}
-use Rattle.uq_outside.specs.Streams.{Grows}
+-- What the first n events of a run and an ending leave: what was written, and what a stop leaves of the files.
+use Rattle.std.specs.Prelude.{◌≡◌, ◌⊎◌, ℕ, ◌+◌, List, [], ◌∷◌, ◌++◌, take, slice_get, Option, Some}
+use Rattle.uq_outside.specs.Files.{Files}
+use Rattle.uq_kv.specs.Holds.{RecoversTo}
+use Rattle.uq_kv.specs.Stored.{Stored}
+use Rattle.uq_shell.specs.Events.{Event, Out, Commit, IsSavedIn, last_commit, output}
 use Rattle.uq_shell.specs.Line.{last_byte, line_after}
-use Rattle.uq_shell.specs.Command.{Event, Out}
-use Rattle.uq_shell.specs.Run.{output}
+use Rattle.uq_shell.specs.Statuses.{row}
 use Rattle.uq_shell.specs.declared.status.Status.{Status}
-use Rattle.uq_shell.specs.declared.status.Status.TheVariants.{Done, Refused, Usage, Memory, Disk, Stream, NotDatabase}
+use Rattle.uq_shell.specs.declared.status.Status.TheVariants.{Stream}
 
--- the text that ends a run
-abbrev pub ending_of : Status → List ℕ
-ending_of Done = []
-ending_of Refused = []
-ending_of Usage = codes "usage: unqlite [--budget N] [--max-entries N] [--max-bytes N] DB [COMMAND [WORD ...]]"
-ending_of Memory = codes "out of memory"
-ending_of Disk = codes "disk failed"
-ending_of Stream = []
-ending_of NotDatabase = codes "not a database"
+-- a text as a line behind this byte, where there is a text
+abbrev pub some_line : Option ℕ → List ℕ → List ℕ
+some_line last [] = []
+some_line last (byte ∷ bytes) = line_after last (byte ∷ bytes)
 
--- no command was obeyed
-abbrev pub is_unanswered : Status → Bool
-is_unanswered Usage = true
-is_unanswered NotDatabase = true
-is_unanswered Done = false
-is_unanswered Refused = false
-is_unanswered Memory = false
-is_unanswered Disk = false
-is_unanswered Stream = false
-
--- the line of this text behind what was written, where there is a text
-abbrev pub line_behind : List ℕ → List ℕ → List ℕ
-line_behind written [] = []
-line_behind written (byte ∷ bytes) = line_after (last_byte written) (byte ∷ bytes)
+-- the line of a status behind what was written
+abbrev pub ending_line : List ℕ → Status → List ℕ
+ending_line written status = some_line (last_byte written) (row status).text
 
 -- the sink failed in the event under way
 pub record IsCutWithin (events : List Event) (n : ℕ) (status : Status) (bytes : List ℕ) : Type 0 where
@@ -43,17 +29,26 @@ pub record IsCutWithin (events : List Event) (n : ℕ) (status : Status) (bytes 
 -- the sink failed in the ending line
 pub record IsCutBehind (events : List Event) (n : ℕ) (status : Status) (bytes : List ℕ) : Type 0 where
   pub count : ℕ
-  pub prefix : bytes ≡ output n events ++ take count (line_behind (output n events) (ending_of status))
+  pub prefix : bytes ≡ output n events ++ take count (ending_line (output n events) status)
 
 -- What was written is what the first n events and the status write, or, where the sink failed, a prefix of it.
 pub record FollowedBytes (events : List Event) (n : ℕ) (status : Status) (sink_rose : Type 0) (bytes : List ℕ) : Type 0 where
-  pub whole : (sink_rose → ⊥) → bytes ≡ output n events ++ line_behind (output n events) (ending_of status)
+  pub whole : (sink_rose → ⊥) → bytes ≡ output n events ++ ending_line (output n events) status
   pub cut : sink_rose → IsCutWithin events n status bytes ⊎ IsCutBehind events n status bytes
 
--- Behind what the commands wrote stands the line of the status, or, where the sink failed, a prefix of it.
-pub record EndsInLine (status : Status) (sink_rose : Type 0) (before now : Option (List ℕ)) : Type 0 where
-  pub replies : List ℕ
-  pub count : ℕ
-  pub grows : Grows (replies ++ take count (line_behind replies (ending_of status))) before now
-  pub whole : (sink_rose → ⊥) → take count (line_behind replies (ending_of status)) ≡ line_behind replies (ending_of status)
-  pub no_reply : IsTrue (is_unanswered status) → replies ≡ []
+-- what the last commit among the first n events left, or event n where that is a commit
+pub data IsAcknowledged (entry : Stored) (events : List Event) (n : ℕ) (stored : Stored) : Type 0 where
+  Last : stored ≡ last_commit entry (take n events) → IsAcknowledged entry events n stored
+  UnderWay : slice_get events n ≡ Some (Commit stored) → IsAcknowledged entry events n stored
+
+-- The files recover to a database of that.
+pub record FollowedFiles (entry : Stored) (events : List Event) (n : ℕ) (files : Files) : Type 0 where
+  pub stored : Stored
+  pub acknowledged : IsAcknowledged entry events n stored
+  pub recovers : RecoversTo stored files
+
+-- The files recover to a database of what was there at entry, or of what a commit among the first n events or event n left.
+pub record FollowedBefore (entry : Stored) (events : List Event) (n : ℕ) (files : Files) : Type 0 where
+  pub stored : Stored
+  pub saved : IsSavedIn entry (take (n + 1) events) stored
+  pub recovers : RecoversTo stored files

@@ -1,10 +1,15 @@
--- What a whole run means: a function of its words and of the store at entry.
-use Rattle.std.specs.Prelude.{ℕ, Bool, true, false, ◌||◌, ◌==◌, if◌then◌else◌, List, [], ◌∷◌, ◌++◌, length, take, drop, None}
-use Rattle.std.specs.List.{list_any, flat_map}
-use Rattle.uq_shell.specs.Store.{Store, Session, opened}
-use Rattle.uq_shell.specs.Command.{Event, Out, Commit, Answer, answer, request}
+-- What a whole run means: a function of its words, of the limits and of what is stored at entry.
+use Rattle.std.specs.Prelude.{ℕ, Bool, true, false, ◌||◌, ◌==◌, if◌then◌else◌, List, [], ◌∷◌, ◌++◌, length, drop, None}
+use Rattle.std.specs.List.{list_any}
+use Rattle.uq_model.specs.Session.{Session, opened}
+use Rattle.uq_model.specs.declared.limits.Limits.{Limits}
+use Rattle.uq_kv.specs.Stored.{Stored}
+use Rattle.uq_shell.specs.Commands.{Request, events_of, request}
+use Rattle.uq_shell.specs.Events.{Event, Commit}
+use Rattle.uq_shell.specs.Statuses.{status_of}
+use Rattle.uq_shell.specs.declared.limits.TheConstants.{LIMITS}
 use Rattle.uq_shell.specs.declared.status.Status.{Status}
-use Rattle.uq_shell.specs.declared.status.Status.TheVariants as status
+use Rattle.uq_shell.specs.declared.status.Status.TheVariants.{Usage}
 
 pub record Outcome : Type 0 where
   pub events : List Event
@@ -21,34 +26,20 @@ is_usage (name ∷ []) = true
 is_usage (name ∷ command ∷ words) = (length name == 0) || list_any begins_with_dash (name ∷ command ∷ words)
 
 -- what is begun is committed at the end
-abbrev pub commit_at_end : Session → List Event
-commit_at_end session = if session.begun then Commit session.present ∷ [] else []
+abbrev pub commit_at_end : Session Stored → List Event
+commit_at_end s = if s.begun then Commit s.present ∷ [] else []
 
--- how a run ends whose command was refused or not
-abbrev pub status_of : Bool → Status
-status_of is_refusal = if is_refusal then status.Refused else status.Done
+-- Behind these events the input ends, with this session and with a refusal among the replies or none.
+abbrev pub ended_with : List Event → Session Stored → Bool → Outcome
+ended_with before s is_refusal = record { events = before ++ commit_at_end s; status = status_of is_refusal }
 
-abbrev pub obeyed : Answer → Outcome
-obeyed answer = record {
-  events = answer.events ++ commit_at_end answer.session;
-  status = status_of answer.is_refusal;
-}
+-- one command, and the end of the input behind it
+abbrev pub obeyed : Request → Limits → Stored → Outcome
+obeyed asked limits entry =
+    let did = asked.does limits (opened entry) in
+    ended_with (events_of None (opened entry) did.0) did.1 did.0.is_refusal
 
 -- the words are the name of a database and one command
-abbrev pub run_of : List (List ℕ) → Store → Outcome
-run_of words store =
-    if is_usage words then record { events = []; status = status.Usage } else obeyed (answer (request (drop 1 words)) None (opened store))
-
-abbrev pub bytes_of : Event → List ℕ
-bytes_of (Out bytes) = bytes
-bytes_of (Commit store) = []
-
--- the bytes of the first n events
-abbrev pub output : ℕ → List Event → List ℕ
-output n events = flat_map bytes_of (take n events)
-
--- the store of the last commit among these events, or else this one
-abbrev pub last_commit : Store → List Event → Store
-last_commit store [] = store
-last_commit store (Out bytes ∷ events) = last_commit store events
-last_commit store (Commit later ∷ events) = last_commit later events
+abbrev pub run_of : List (List ℕ) → Stored → Outcome
+run_of words entry =
+    if is_usage words then record { events = []; status = Usage } else obeyed (request (drop 1 words)) LIMITS entry

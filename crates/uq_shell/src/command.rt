@@ -1,23 +1,29 @@
 //! What the words ask for.
-ghost use Rattle.std.specs.Prelude.{◌≡◌, map, string_bytes};
+ghost use Rattle.std.specs.Prelude.{◌≡◌};
 ghost use Rattle.std.specs.List.{list_any};
+ghost use Rattle.std.specs.Prelude.{string_bytes};
+ghost use Rattle.uq_shell.specs.Answers.{request_of};
+ghost use Rattle.uq_shell.specs.Commands.{NoWord, filled, request};
+ghost use Rattle.uq_shell.specs.Headline.{texts};
 ghost use Rattle.uq_shell.specs.Run.{begins_with_dash, is_usage};
-ghost use Rattle.uq_shell.specs.Command.{request};
-ghost use Rattle.uq_shell.specs.Request.{request_of};
+
+use crate::reply::Refusal;
 
 /// A command and its words.
 #[derive(Clone, Copy, Debug)]
 pub enum Command<'a> {
     Store { key: &'a [u8], value: &'a [u8] },
     Fetch { key: &'a [u8] },
-    /// The number of words is wrong.
-    Bad,
-    Unknown,
+    Begin,
+    Commit,
+    Rollback,
+    /// Words that are no command.
+    Refused(Refusal),
 }
 
 /// Whether the words name no database or no command, or have an option.
 pub fn lacks_form(words: &[String]) -> bool
-    ensures { result ≡ is_usage (map string_bytes words.now) }
+    ensures { result ≡ is_usage (texts words.now) }
 {
     match words {
         [] | [_] => true,
@@ -37,22 +43,40 @@ fn is_option(word: &String) -> bool
     word.as_str().as_bytes().first() == Some(&b'-')
 }
 
-/// The command of the words that follow the name of the database.
+/// The table of commands: each by its name, with the form of the words behind it.
 pub fn read_command<'a>(words: &'a [String]) -> Command<'a>
-    ensures { request_of result ≡ request (map string_bytes words.now) }
+    ensures { request_of result ≡ request (texts words.now) }
 {
     let [name, words @ ..] = words else {
-        return Command::Bad;
+        return Command::Refused(Refusal::BadCommand);
     };
-    match (name.as_str(), words) {
-        ("store", [key, value]) => Command::Store {
-            key: key.as_str().as_bytes(),
-            value: value.as_str().as_bytes(),
+    match name.as_str() {
+        "store" => match words {
+            [key, value] => Command::Store {
+                key: key.as_str().as_bytes(),
+                value: value.as_str().as_bytes(),
+            },
+            _ => Command::Refused(Refusal::BadCommand),
         },
-        ("fetch", [key]) => Command::Fetch {
-            key: key.as_str().as_bytes(),
+        "fetch" => match words {
+            [key] => Command::Fetch {
+                key: key.as_str().as_bytes(),
+            },
+            _ => Command::Refused(Refusal::BadCommand),
         },
-        ("store" | "fetch", _) => Command::Bad,
-        _ => Command::Unknown,
+        "begin" => alone(Command::Begin, words),
+        "commit" => alone(Command::Commit, words),
+        "rollback" => alone(Command::Rollback, words),
+        _ => Command::Refused(Refusal::UnknownCommand),
+    }
+}
+
+/// A command that has no words.
+fn alone<'a>(command: Command<'a>, words: &[String]) -> Command<'a>
+    ensures { request_of result ≡ filled (NoWord (request_of command.entry)) (texts words.now) }
+{
+    match words {
+        [] => command,
+        _ => Command::Refused(Refusal::BadCommand),
     }
 }

@@ -1,3 +1,5 @@
+//! The end of a run.
+
 use crate::Status;
 
 /// How a run ended, and how many events of its meaning were completed.

@@ -1,12 +1,11 @@
 //! All that the program does: words to a command, a command to its reply, and `run`, which carries the theorem.
 #![tactic(auto)]
 
+mod answering;
 mod command;
-mod committing;
-mod database;
 mod ended;
-mod fault;
-mod opening;
+mod limits;
+mod output;
 mod reply;
 mod running;
 mod status;
@@ -14,5 +13,6 @@ mod status;
 mod tests;
 
 pub use ended::Ended;
+pub use output::put_line;
 pub use running::run;
 pub use status::Status;

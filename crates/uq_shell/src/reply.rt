@@ -1,50 +1,93 @@
 //! Replies, and how they read.
-ghost use Rattle.std.specs.Prelude.{◌≡◌, ◌++◌, ◌∷◌, []};
-ghost use Rattle.uq_shell.specs.Reply.{line_of, is_refused};
-ghost use Rattle.uq_shell.specs.Run.{status_of};
+ghost use Rattle.std.specs.Prelude.{◌≡◌};
+ghost use Rattle.uq_shell.specs.Replies.{is_refused, refusal_text, taken_as, text_of};
+ghost use Rattle.uq_shell.specs.Statuses.{status_of};
 
 use crate::Status;
+use uq_kv::KvFault;
 
 /// What a command answers.
 #[derive(Debug, Drop)]
 pub enum Reply {
+    /// It was done.
     Ok,
-    /// A whole line: the data that were asked for, as a JSON string, and a line feed.
+    /// The data that were asked for, as a JSON string.
     Data(Vec<u8>),
-    EmptyKey,
-    Full,
-    NotFound,
+    Refused(Refusal),
+}
+
+/// Why a command was not done. It has changed nothing.
+#[derive(Clone, Copy, Debug, PartialEq, Eq)]
+pub enum Refusal {
+    /// The words do not have the form of their command.
     BadCommand,
+    /// No command has this name.
     UnknownCommand,
+    EmptyKey,
+    KeyTooLong,
+    ValueTooLong,
+    /// There is no room for the entry.
+    Full,
+    /// The key is not there.
+    NotFound,
+    /// There is no such entry.
+    NoEntry,
 }
 
 impl Reply {
-    /// The reply as the first line of the output.
-    pub fn line(&self) -> &[u8]
-        ensures { result.now ≡ line_of self.now }
+    /// How it reads.
+    pub fn text(&self) -> &[u8]
+        ensures { result.now ≡ text_of self.now }
     {
         match self {
-            Reply::Ok => b"ok\n",
-            Reply::Data(line) => line.as_slice(),
-            Reply::EmptyKey => b"empty key\n",
-            Reply::Full => b"full\n",
-            Reply::NotFound => b"not found\n",
-            Reply::BadCommand => b"bad command\n",
-            Reply::UnknownCommand => b"unknown command\n",
+            Reply::Ok => b"ok",
+            Reply::Data(text) => text.as_slice(),
+            Reply::Refused(refusal) => refusal.text(),
         }
     }
 
-    /// How a run ends that has this reply.
+    /// How a run ends whose only reply it is.
     pub fn status(&self) -> Status
         ensures { result ≡ status_of (is_refused self.now) }
     {
         match self {
             Reply::Ok | Reply::Data(_) => Status::Done,
-            Reply::EmptyKey
-            | Reply::Full
-            | Reply::NotFound
-            | Reply::BadCommand
-            | Reply::UnknownCommand => Status::Refused,
+            Reply::Refused(_) => Status::Refused,
         }
+    }
+}
+
+impl Refusal {
+    fn text(self) -> &'static [u8]
+        ensures { result.now ≡ refusal_text self }
+    {
+        match self {
+            Refusal::BadCommand => b"bad command",
+            Refusal::UnknownCommand => b"unknown command",
+            Refusal::EmptyKey => b"empty key",
+            Refusal::KeyTooLong => b"key too long",
+            Refusal::ValueTooLong => b"value too long",
+            Refusal::Full => b"full",
+            Refusal::NotFound => b"not found",
+            Refusal::NoEntry => b"no entry",
+        }
+    }
+}
+
+/// What a fault of the store is to a run: a refusal, which is replied, or the status that ends it.
+pub fn refusal_of(fault: KvFault) -> Result<Refusal, Status>
+    ensures { result ≡ taken_as fault }
+{
+    match fault {
+        KvFault::EmptyKey => Ok(Refusal::EmptyKey),
+        KvFault::KeyTooLong => Ok(Refusal::KeyTooLong),
+        KvFault::ValueTooLong => Ok(Refusal::ValueTooLong),
+        KvFault::Full => Ok(Refusal::Full),
+        KvFault::NotFound => Ok(Refusal::NotFound),
+        KvFault::NoEntry => Ok(Refusal::NoEntry),
+        KvFault::Disk => Err(Status::Disk),
+        KvFault::Corrupt => Err(Status::NotDatabase),
+        KvFault::Closed { first } => Err(first.into()),
+        KvFault::Memory => Err(Status::Memory),
     }
 }

@@ -1,7 +1,12 @@
-ghost use Rattle.std.specs.Prelude.{◌≡◌, ◌∷◌, ◌++◌, [], if◌then◌else◌};
-ghost use Rattle.uq_shell.specs.Followed.{ending_of, line_behind};
+//! Statuses, and the text that ends a run with each.
+ghost use Rattle.std.specs.Prelude.{◌≡◌};
+ghost use Rattle.uq_shell.specs.Replies.{status_by};
+ghost use Rattle.uq_shell.specs.Statuses.{row};
 
-/// How a run ended. Its number is the exit status of the program.
+use uq_kv::OpenFault;
+use uq_model::Cause;
+
+/// How a run ended.
 #[derive(Clone, Copy, Debug, PartialEq, Eq)]
 pub enum Status {
     /// Everything was done as asked.
@@ -21,17 +26,50 @@ pub enum Status {
 }
 
 impl Status {
-    /// The line that ends a run with this status, where nothing stands before it on its line.
-    pub fn line(self) -> &'static [u8]
-        ensures { result.now ≡ line_behind [] (ending_of self) }
+    /// The exit status of the program.
+    pub fn number(self) -> u8
+        ensures { result ≡ (row self).number }
+    {
+        self as u8
+    }
+
+    /// The text that ends a run with this status; empty where nothing does.
+    pub fn text(self) -> &'static [u8]
+        ensures { result.now ≡ (row self).text }
     {
         match self {
             Status::Done | Status::Refused | Status::Stream => b"",
             Status::Usage =>
-                b"usage: unqlite [--budget N] [--max-entries N] [--max-bytes N] DB [COMMAND [WORD ...]]\n",
-            Status::Memory => b"out of memory\n",
-            Status::Disk => b"disk failed\n",
-            Status::NotDatabase => b"not a database\n",
+                b"usage: unqlite [--budget N] [--max-entries N] [--max-bytes N] DB [COMMAND [WORD ...]]",
+            Status::Memory => b"out of memory",
+            Status::Disk => b"disk failed",
+            Status::NotDatabase => b"not a database",
+        }
+    }
+}
+
+impl From<Cause> for Status {
+    ghost from_gives = { λ cause gives. gives ≡ status_by cause };
+
+    fn from(cause: Cause) -> Status {
+        match cause {
+            Cause::Disk => Status::Disk,
+            Cause::Corrupt => Status::NotDatabase,
+            Cause::Memory => Status::Memory,
+        }
+    }
+}
+
+impl From<OpenFault> for Status {
+    ghost use Rattle.uq_shell.specs.Replies.{status_at_opening};
+
+    ghost from_gives = { λ fault gives. gives ≡ status_at_opening fault };
+
+    fn from(fault: OpenFault) -> Status {
+        match fault {
+            OpenFault::Disk => Status::Disk,
+            OpenFault::NotDatabase => Status::NotDatabase,
+            OpenFault::Memory => Status::Memory,
         }
     }
 }

@@ -1,13 +1,22 @@
+//! Runs over a disk and a sink in memory: replies, calls that fail, and stops at every moment.
 use crate::{Ended, Status, run};
 use std::alloc::{AllocError, Global};
 use std::fs;
 use std::process::Abort;
 use std::test::Fail;
-use uq_outside::{Disk, FileDisk, FileNo, MemDisk, MemSink, SureSource};
-use uq_page::PAGE_SIZE;
+use uq_outside::{Disk, FileDisk, FileNo, Image, MemDisk, MemSink, SureSource};
 
-/// The length of a main file.
-const TWO_PAGES: usize = 2 * PAGE_SIZE;
+/// The length of a page, and of a main file.
+const PAGE: usize = 4096;
+
+const TWO_PAGES: usize = 2 * PAGE;
+
+/// More than the calls of the disk in any run here.
+const MANY_CALLS: u64 = 64;
+
+const NOT_FOUND: &[u8] = b"not found\n";
+
+const FAILED: &[u8] = b"disk failed\n";
 
 /// Runs words over a disk, into a sink, with no input.
 fn obey<D: Disk>(
@@ -25,6 +34,8 @@ fn obey<D: Disk>(
 
 const STORE: &[&str] = &["t.db", "store", "a", "1"];
 
+const FETCH: &[&str] = &["t.db", "fetch", "a"];
+
 /// A disk that holds `a`, as the first store leaves it.
 fn stored(alloc: Global) -> Result<MemDisk, Fail> {
     let mut disk = MemDisk::new(alloc, b"", b"", &[])?;
@@ -39,18 +50,14 @@ fn ended(status: Status, done: u128) -> Ended {
 #[test]
 fn a_stored_key_is_fetched_as_a_json_string(rt: HostRuntime) -> Result<(), Fail> {
     let mut disk = MemDisk::new(rt.alloc(), b"", b"", &[])?;
-    let runs: [(&[&str], &[u8], Ended); 13] = [
+    let runs: [(&[&str], &[u8], Ended); 19] = [
         (
             &["t.db", "fetch", "b"],
-            b"not found\n",
+            NOT_FOUND,
             ended(Status::Refused, 1),
         ),
-        (
-            &["t.db", "store", "a", "1"],
-            b"ok\n",
-            ended(Status::Done, 2),
-        ),
-        (&["t.db", "fetch", "a"], b"\"1\"\n", ended(Status::Done, 1)),
+        (STORE, b"ok\n", ended(Status::Done, 2)),
+        (FETCH, b"\"1\"\n", ended(Status::Done, 1)),
         (
             &["t.db", "store", "b", "x\"\\\u{1}\n\u{e9}"],
             b"ok\n",
@@ -62,7 +69,11 @@ fn a_stored_key_is_fetched_as_a_json_string(rt: HostRuntime) -> Result<(), Fail>
             ended(Status::Done, 1),
         ),
         (&["t.db", "store", "a", ""], b"ok\n", ended(Status::Done, 2)),
-        (&["t.db", "fetch", "a"], b"\"\"\n", ended(Status::Done, 1)),
+        (FETCH, b"\"\"\n", ended(Status::Done, 1)),
+        (&["t.db", "begin"], b"ok\n", ended(Status::Done, 2)),
+        (&["t.db", "commit"], b"ok\n", ended(Status::Done, 1)),
+        (&["t.db", "rollback"], b"ok\n", ended(Status::Done, 1)),
+        (FETCH, b"\"\"\n", ended(Status::Done, 1)),
         (
             &["t.db", "store", "", "1"],
             b"empty key\n",
@@ -84,7 +95,17 @@ fn a_stored_key_is_fetched_as_a_json_string(rt: HostRuntime) -> Result<(), Fail>
             ended(Status::Refused, 1),
         ),
         (
+            &["t.db", "begin", "a"],
+            b"bad command\n",
+            ended(Status::Refused, 1),
+        ),
+        (
             &["t.db", "drop"],
+            b"unknown command\n",
+            ended(Status::Refused, 1),
+        ),
+        (
+            &["t.db", "Store", "a", "1"],
             b"unknown command\n",
             ended(Status::Refused, 1),
         ),
@@ -135,89 +156,358 @@ fn three_great_entries_fill_the_page(rt: HostRuntime) -> Result<(), Fail> {
 }
 
 #[test]
-fn a_disk_that_fails_at_each_call_ends_the_run(rt: HostRuntime) -> Result<(), Fail> {
-    let whole = stored(rt.alloc())?;
-    let full = whole.file(FileNo::Main);
-    let store: &[&str] = &["t.db", "store", "a", "2"];
-    let fetch: &[&str] = &["t.db", "fetch", "a"];
-    // The words, the main file, the calls before the reply, and all calls.
-    let runs: [(&[&str], &[u8], u64, u64); 3] = [
-        (store, b"", 3, 6),
-        (store, full, 5, 8),
-        (fetch, full, 5, 5),
-    ];
-    for (words, main, before, calls) in runs {
-        for call in 1..=calls {
-            let mut disk = MemDisk::new(rt.alloc(), main, b"", &[call])?;
-            let mut out = MemSink::new(rt.alloc(), &[])?;
-            let end = obey(rt.alloc(), words, &mut disk, &mut out)?;
-            if call <= before {
-                assert_eq!(rt; out.written(), b"disk failed\n".as_slice());
-                assert_eq!(rt; end, ended(Status::Disk, 0));
-                assert_eq!(rt; disk.file(FileNo::Main), main);
-            } else {
-                assert_eq!(rt; out.written(), b"ok\ndisk failed\n".as_slice());
-                assert_eq!(rt; end, ended(Status::Disk, 1));
-            }
-            assert_eq!(rt; disk.calls(), call);
-        }
-    }
+fn a_store_leaves_a_journal_of_ten_zero_bytes_and_a_rollback_leaves_no_page(
+    rt: HostRuntime,
+) -> Result<(), Fail> {
+    let disk = stored(rt.alloc())?;
+    assert_eq!(rt; disk.file(FileNo::Journal), [0; 10].as_slice());
+    assert_eq!(rt; disk.file(FileNo::Main).len(), TWO_PAGES);
+    let mut disk = MemDisk::new(rt.alloc(), b"", b"", &[])?;
+    let mut out = MemSink::new(rt.alloc(), &[])?;
+    let end = obey(rt.alloc(), &["t.db", "rollback"], &mut disk, &mut out)?;
+    assert_eq!(rt; end, ended(Status::Done, 1));
+    assert_eq!(rt; disk.file(FileNo::Main), b"".as_slice());
     Ok(())
 }
 
-/// A run over a disk and a sink that fail at these calls, and what is left of it.
-#[derive(Drop)]
-struct CutRun<'a> {
+/// A command over a start, and what the rules say of it.
+#[derive(Clone, Copy)]
+struct Case<'a> {
     words: &'a [&'a str],
+    /// The main file and the journal at its start.
     main: &'a [u8],
-    disk_fails: &'a [u64],
-    sink_fails: &'a [(u64, usize)],
-    bytes: &'a [u8],
-    end: Ended,
-    left: &'a [u8],
+    journal: &'a [u8],
+    /// What `fetch a` replies before it.
+    before: &'a [u8],
+    reply: &'a [u8],
+    status: Status,
+    /// What `fetch a` replies behind the commit at its end, where there is one.
+    after: Option<&'a [u8]>,
 }
 
-fn check_cut(rt: &impl Abort, alloc: Global, cut: &CutRun<'_>) -> Result<(), Fail> {
-    let mut disk = MemDisk::new(alloc, cut.main, b"", cut.disk_fails)?;
-    let mut out = MemSink::new(alloc, cut.sink_fails)?;
-    let end = obey(alloc, cut.words, &mut disk, &mut out)?;
-    let (words, puts) = (cut.words, cut.sink_fails);
-    assert_eq!(rt; out.written(), cut.bytes, "{words:?} {puts:?}");
-    assert_eq!(rt; end, cut.end, "{words:?} {puts:?}");
-    assert_eq!(rt; disk.file(FileNo::Main), cut.left, "{words:?} {puts:?}");
-    assert_eq!(rt; disk.file(FileNo::Journal), b"".as_slice());
+impl<'a> Case<'a> {
+    /// The events of its whole run: the reply, and the commit.
+    fn events(&self) -> u128 {
+        if self.after.is_some() { 2 } else { 1 }
+    }
+
+    /// Whether a stop may leave this, where so many events are done: what was there before, or what the commit left
+    /// where it is done or under way. At the end of the run a commit that is done has left it for good.
+    fn allows(&self, found: &[u8], done: u128, is_over: bool) -> bool {
+        if found == self.before {
+            return !(is_over && done == 2) || self.after == Some(self.before);
+        }
+        done >= 1 && self.after == Some(found)
+    }
+}
+
+/// What `fetch a` replies over an image.
+fn fetched(alloc: Global, image: &Image) -> Result<MemSink, Fail> {
+    let mut disk = MemDisk::new(alloc, image.main(), image.journal(), &[])?;
+    let mut out = MemSink::new(alloc, &[])?;
+    obey(alloc, FETCH, &mut disk, &mut out)?;
+    Ok(out)
+}
+
+/// How many images there are of a run that has ended so, each of which reopens as the rules allow.
+fn count_stops(
+    rt: &impl Abort,
+    alloc: Global,
+    case: &Case<'_>,
+    disk: &MemDisk,
+    end: Ended,
+) -> Result<u64, Fail> {
+    let mut images: u64 = 0;
+    for choice in 0..5u8 {
+        let mut last: Option<Image> = None;
+        for moment in 0..=disk.calls() {
+            if moment > disk.calls() {
+                return Ok(images);
+            }
+            let image = disk.image(moment, choice)?;
+            let is_over = moment == disk.calls();
+            // One like that of the moment before was reopened already.
+            let is_known = match &last {
+                Some(last) => last.main() == image.main() && last.journal() == image.journal(),
+                None => false,
+            };
+            if is_over || !is_known {
+                let found = fetched(alloc, &image)?;
+                let words = case.words;
+                assert!(rt;
+                    case.allows(found.written(), end.done, is_over),
+                    "{words:?} {moment} {choice}"
+                );
+            }
+            images = images.saturating_add(1);
+            last = Some(image);
+        }
+    }
+    Ok(images)
+}
+
+/// The commands over an empty file, or over one that holds `a`.
+fn cases<'a>(main: &'a [u8], journal: &'a [u8], before: &'a [u8]) -> [Case<'a>; 6] {
+    let status = if before == NOT_FOUND {
+        Status::Refused
+    } else {
+        Status::Done
+    };
+    let case = Case {
+        words: FETCH,
+        main,
+        journal,
+        before,
+        reply: before,
+        status,
+        after: None,
+    };
+    let done = Case {
+        reply: b"ok\n",
+        status: Status::Done,
+        ..case
+    };
+    [
+        case,
+        Case {
+            words: STORE,
+            after: Some(b"\"1\"\n"),
+            ..done
+        },
+        Case {
+            words: &["t.db", "store", "a", "2"],
+            after: Some(b"\"2\"\n"),
+            ..done
+        },
+        Case {
+            words: &["t.db", "begin"],
+            after: Some(before),
+            ..done
+        },
+        Case {
+            words: &["t.db", "commit"],
+            ..done
+        },
+        Case {
+            words: &["t.db", "rollback"],
+            ..done
+        },
+    ]
+}
+
+/// The calls of the disk in a run of this case in which none fails.
+fn count_calls(rt: &impl Abort, alloc: Global, case: &Case<'_>) -> Result<u64, Fail> {
+    let mut disk = MemDisk::new(alloc, case.main, case.journal, &[])?;
+    let mut out = MemSink::new(alloc, &[])?;
+    let end = obey(alloc, case.words, &mut disk, &mut out)?;
+    let words = case.words;
+    assert_eq!(rt; end, ended(case.status, case.events()), "{words:?}");
+    assert_eq!(rt; out.written(), case.reply, "{words:?}");
+    count_stops(rt, alloc, case, &disk, end)?;
+    Ok(disk.calls())
+}
+
+/// A run whose disk fails in this call, and in all later ones or in none of them. Answers the number of images.
+fn check_failing_call(
+    rt: &impl Abort,
+    alloc: Global,
+    case: &Case<'_>,
+    call: u64,
+    goes_on: bool,
+) -> Result<u64, Fail> {
+    let mut fails = Vec::new(alloc);
+    fails.push(call)?;
+    if goes_on {
+        for later in 1..MANY_CALLS {
+            fails.push(call.saturating_add(later))?;
+        }
+    }
+    let mut disk = MemDisk::new(alloc, case.main, case.journal, &fails)?;
+    let mut out = MemSink::new(alloc, &[])?;
+    let end = obey(alloc, case.words, &mut disk, &mut out)?;
+    let words = case.words;
+    assert_eq!(rt; end.status, Status::Disk, "{words:?} {call}");
+    assert!(rt; end.done < case.events(), "{words:?} {call}");
+    let mut bytes = Vec::new(alloc);
+    if end.done == 1 {
+        bytes.extend_from_slice(case.reply)?;
+    }
+    bytes.extend_from_slice(FAILED)?;
+    assert_eq!(rt; out.written(), bytes.as_slice(), "{words:?} {call}");
+    count_stops(rt, alloc, case, &disk, end)
+}
+
+/// How many images there are of the runs of these cases in which a call fails, each in turn.
+fn count_failing(
+    rt: &impl Abort,
+    alloc: Global,
+    cases: &[Case<'_>],
+    goes_on: bool,
+) -> Result<u64, Fail> {
+    let mut images: u64 = 0;
+    for case in cases {
+        let calls = count_calls(rt, alloc, case)?;
+        for call in 1..=calls {
+            let more = check_failing_call(rt, alloc, case, call, goes_on)?;
+            images = images.saturating_add(more);
+        }
+    }
+    Ok(images)
+}
+
+#[test]
+fn a_call_that_fails_over_an_empty_file_leaves_what_was_saved_or_the_commit_under_way(
+    rt: HostRuntime,
+) -> Result<(), Fail> {
+    let cases = cases(b"", b"", NOT_FOUND);
+    let images = count_failing(&rt, rt.alloc(), &cases, false)?;
+    assert!(rt; images > 1000, "{images}");
     Ok(())
 }
 
 #[test]
-fn a_reply_that_is_cut_leaves_the_disk_as_it_was(rt: HostRuntime) -> Result<(), Fail> {
+fn calls_that_fail_from_one_on_over_an_empty_file_leave_what_was_saved_or_the_commit_under_way(
+    rt: HostRuntime,
+) -> Result<(), Fail> {
+    let cases = cases(b"", b"", NOT_FOUND);
+    let images = count_failing(&rt, rt.alloc(), &cases, true)?;
+    assert!(rt; images > 1000, "{images}");
+    Ok(())
+}
+
+#[test]
+fn a_call_that_fails_in_a_store_of_the_same(rt: HostRuntime) -> Result<(), Fail> {
     let whole = stored(rt.alloc())?;
-    let full = whole.file(FileNo::Main);
-    // The words, the main file, the bytes that the first put takes before it fails, and what is written.
-    let runs: [(&[&str], &[u8], usize, &[u8]); 11] = [
-        (STORE, b"", 0, b""),
-        (STORE, b"", 1, b"o"),
-        (STORE, b"", 3, b"ok\n"),
-        (&["t.db", "store", "a", "2"], full, 0, b""),
-        (&["t.db", "store", "a", "2"], full, 1, b"o"),
-        (&["t.db", "fetch", "a"], full, 0, b""),
-        (&["t.db", "fetch", "a"], full, 1, b"\""),
-        (&["t.db", "fetch", "a"], full, 4, b"\"1\"\n"),
-        (&["t.db", "fetch", "b"], full, 4, b"not "),
-        (&["t.db", "store", ""], full, 1, b"b"),
-        (&["t.db", "drop"], b"", 0, b""),
-    ];
-    for (words, main, kept, bytes) in runs {
-        let cut = CutRun {
-            words,
-            main,
-            disk_fails: &[],
-            sink_fails: &[(1, kept)],
-            bytes,
-            end: ended(Status::Stream, 0),
-            left: main,
-        };
-        check_cut(&rt, rt.alloc(), &cut)?;
+    let cases = cases(
+        whole.file(FileNo::Main),
+        whole.file(FileNo::Journal),
+        b"\"1\"\n",
+    );
+    let images = count_failing(&rt, rt.alloc(), &cases[1..2], false)?;
+    assert!(rt; images > 500, "{images}");
+    Ok(())
+}
+
+#[test]
+fn a_call_that_fails_in_a_store_of_other_data(rt: HostRuntime) -> Result<(), Fail> {
+    let whole = stored(rt.alloc())?;
+    let cases = cases(
+        whole.file(FileNo::Main),
+        whole.file(FileNo::Journal),
+        b"\"1\"\n",
+    );
+    let images = count_failing(&rt, rt.alloc(), &cases[2..3], false)?;
+    assert!(rt; images > 500, "{images}");
+    Ok(())
+}
+
+#[test]
+fn a_call_that_fails_in_begin_commit_and_rollback(rt: HostRuntime) -> Result<(), Fail> {
+    let whole = stored(rt.alloc())?;
+    let cases = cases(
+        whole.file(FileNo::Main),
+        whole.file(FileNo::Journal),
+        b"\"1\"\n",
+    );
+    let images = count_failing(&rt, rt.alloc(), &cases[3..], false)?;
+    assert!(rt; images > 500, "{images}");
+    Ok(())
+}
+
+#[test]
+fn calls_that_fail_from_one_on_in_a_store_of_the_same(rt: HostRuntime) -> Result<(), Fail> {
+    let whole = stored(rt.alloc())?;
+    let cases = cases(
+        whole.file(FileNo::Main),
+        whole.file(FileNo::Journal),
+        b"\"1\"\n",
+    );
+    let images = count_failing(&rt, rt.alloc(), &cases[1..2], true)?;
+    assert!(rt; images > 500, "{images}");
+    Ok(())
+}
+
+#[test]
+fn calls_that_fail_from_one_on_in_a_store_of_other_data(rt: HostRuntime) -> Result<(), Fail> {
+    let whole = stored(rt.alloc())?;
+    let cases = cases(
+        whole.file(FileNo::Main),
+        whole.file(FileNo::Journal),
+        b"\"1\"\n",
+    );
+    let images = count_failing(&rt, rt.alloc(), &cases[2..3], true)?;
+    assert!(rt; images > 500, "{images}");
+    Ok(())
+}
+
+#[test]
+fn calls_that_fail_from_one_on_in_begin_commit_and_rollback(rt: HostRuntime) -> Result<(), Fail> {
+    let whole = stored(rt.alloc())?;
+    let cases = cases(
+        whole.file(FileNo::Main),
+        whole.file(FileNo::Journal),
+        b"\"1\"\n",
+    );
+    let images = count_failing(&rt, rt.alloc(), &cases[3..], true)?;
+    assert!(rt; images > 500, "{images}");
+    Ok(())
+}
+
+#[test]
+fn a_call_that_fails_in_a_fetch(rt: HostRuntime) -> Result<(), Fail> {
+    let whole = stored(rt.alloc())?;
+    let cases = cases(
+        whole.file(FileNo::Main),
+        whole.file(FileNo::Journal),
+        b"\"1\"\n",
+    );
+    let images = count_failing(&rt, rt.alloc(), &cases[..1], false)?;
+    assert!(rt; images > 100, "{images}");
+    Ok(())
+}
+
+/// A run over a sink that fails in this put behind so many bytes of it.
+fn check_failing_put(
+    rt: &impl Abort,
+    alloc: Global,
+    case: &Case<'_>,
+    put: (u64, usize),
+    fails: &[u64],
+    want: Ended,
+    bytes: &[u8],
+) -> Result<(), Fail> {
+    let mut disk = MemDisk::new(alloc, case.main, case.journal, fails)?;
+    let mut out = MemSink::new(alloc, &[put])?;
+    let end = obey(alloc, case.words, &mut disk, &mut out)?;
+    let words = case.words;
+    assert_eq!(rt; end, want, "{words:?} {put:?}");
+    assert_eq!(rt; out.written(), bytes, "{words:?} {put:?}");
+    count_stops(rt, alloc, case, &disk, end)?;
+    Ok(())
+}
+
+#[test]
+fn a_sink_that_fails_in_a_reply_stores_nothing(rt: HostRuntime) -> Result<(), Fail> {
+    let whole = stored(rt.alloc())?;
+    let empty = cases(b"", b"", NOT_FOUND);
+    let held = cases(
+        whole.file(FileNo::Main),
+        whole.file(FileNo::Journal),
+        b"\"1\"\n",
+    );
+    for case in empty.iter().chain(held.iter()) {
+        for kept in 0..=case.reply.len() {
+            let want = ended(Status::Stream, 0);
+            check_failing_put(
+                &rt,
+                rt.alloc(),
+                case,
+                (1, kept),
+                &[],
+                want,
+                &case.reply[..kept],
+            )?;
+        }
     }
     Ok(())
 }
@@ -225,29 +515,26 @@ fn a_reply_that_is_cut_leaves_the_disk_as_it_was(rt: HostRuntime) -> Result<(), 
 #[test]
 fn a_commit_that_fails_keeps_its_status_where_its_line_is_cut(rt: HostRuntime) -> Result<(), Fail> {
     let whole = stored(rt.alloc())?;
-    let full = whole.file(FileNo::Main);
-    let first = full.len() / 2;
-    // The disk's call that fails in the run of `store` over empty files, what the main file holds behind it, the bytes
-    // of the ending line that are put before the sink fails, and what is written.
-    let runs: [(u64, &[u8], usize, &[u8]); 6] = [
-        (4, b"", 0, b"ok\n"),
-        (4, b"", 1, b"ok\nd"),
-        (5, &full[..first], 0, b"ok\n"),
-        (5, &full[..first], 1, b"ok\nd"),
-        (6, full, 0, b"ok\n"),
-        (6, full, 1, b"ok\nd"),
-    ];
-    for (call, left, kept, bytes) in runs {
-        let cut = CutRun {
-            words: STORE,
-            main: b"",
-            disk_fails: &[call],
-            sink_fails: &[(2, kept)],
-            bytes,
-            end: ended(Status::Disk, 1),
-            left,
-        };
-        check_cut(&rt, rt.alloc(), &cut)?;
+    let empty = cases(b"", b"", NOT_FOUND);
+    let held = cases(
+        whole.file(FileNo::Main),
+        whole.file(FileNo::Journal),
+        b"\"1\"\n",
+    );
+    for case in [empty[1], held[2]] {
+        // The write that closes the gate is the last call but one.
+        let calls = count_calls(&rt, rt.alloc(), &case)?;
+        let fails = [calls.saturating_sub(1)];
+        for kept in 0..=FAILED.len() {
+            // Each run reopens its images, so a few lengths will do.
+            if kept % 4 != 0 {
+                continue;
+            }
+            let mut bytes = Vec::from_slice(rt.alloc(), case.reply)?;
+            bytes.extend_from_slice(&FAILED[..kept])?;
+            let want = ended(Status::Disk, 1);
+            check_failing_put(&rt, rt.alloc(), &case, (2, kept), &fails, want, &bytes)?;
+        }
     }
     Ok(())
 }
@@ -255,48 +542,69 @@ fn a_commit_that_fails_keeps_its_status_where_its_line_is_cut(rt: HostRuntime) -
 #[test]
 fn an_ending_line_that_is_cut_keeps_its_status(rt: HostRuntime) -> Result<(), Fail> {
     let whole = stored(rt.alloc())?;
-    let full = whole.file(FileNo::Main);
+    let (full, journal) = (whole.file(FileNo::Main), whole.file(FileNo::Journal));
+    let zeros = [0; PAGE];
     // The words, the main file, the disk's call that fails, the bytes that are put, and the status.
-    let zeros = [0; PAGE_SIZE];
     let runs: [(&[&str], &[u8], u64, &[u8], Status); 7] = [
-        (&["t.db"], b"", 0, b"", Status::Usage),
-        (&["t.db"], b"", 0, b"usage", Status::Usage),
-        (STORE, b"", 1, b"", Status::Disk),
-        (STORE, b"", 1, b"d", Status::Disk),
-        (&["t.db", "fetch", "a"], full, 5, b"disk", Status::Disk),
+        (&["t.db"], full, 0, b"", Status::Usage),
+        (&["t.db"], full, 0, b"usage", Status::Usage),
+        (STORE, full, 1, b"", Status::Disk),
+        (STORE, full, 1, b"d", Status::Disk),
+        (FETCH, full, 5, b"disk", Status::Disk),
         (STORE, &zeros, 0, b"", Status::NotDatabase),
         (STORE, &zeros, 0, b"n", Status::NotDatabase),
     ];
     for (words, main, call, bytes, status) in runs {
-        let cut = CutRun {
-            words,
-            main,
-            disk_fails: &[call],
-            sink_fails: &[(1, bytes.len())],
-            bytes,
-            end: ended(status, 0),
-            left: main,
-        };
-        check_cut(&rt, rt.alloc(), &cut)?;
+        let mut disk = MemDisk::new(rt.alloc(), main, journal, &[call])?;
+        let mut out = MemSink::new(rt.alloc(), &[(1, bytes.len())])?;
+        let end = obey(rt.alloc(), words, &mut disk, &mut out)?;
+        assert_eq!(rt; end, ended(status, 0), "{words:?}");
+        assert_eq!(rt; out.written(), bytes, "{words:?}");
+        assert_eq!(rt; disk.file(FileNo::Main), main, "{words:?}");
     }
     Ok(())
 }
 
 #[test]
-fn other_files_are_no_database(rt: HostRuntime) -> Result<(), Fail> {
+fn other_files_are_no_database_and_stay(rt: HostRuntime) -> Result<(), Fail> {
     let zeros = [0; TWO_PAGES];
-    let files: [(&[u8], &[u8]); 4] = [
-        (&zeros[..PAGE_SIZE], b""),
-        (&zeros, b""),
+    // The main file, and a journal: none, a closed gate, and an open one without its batch.
+    let files: [(&[u8], &[u8]); 5] = [
+        (&zeros[..PAGE], b""),
+        (&zeros, b"\0"),
         (b"UQ jx9 database\n", b""),
-        (b"", b"\0"),
+        (b"", b"\xa5\0"),
+        (&zeros, b"\xa5\0"),
     ];
     for (main, journal) in files {
-        let mut disk = MemDisk::new(rt.alloc(), main, journal, &[])?;
-        let mut out = MemSink::new(rt.alloc(), &[])?;
-        let end = obey(rt.alloc(), &["t.db", "fetch", "a"], &mut disk, &mut out)?;
-        assert_eq!(rt; out.written(), b"not a database\n".as_slice());
-        assert_eq!(rt; end, ended(Status::NotDatabase, 0));
+        for words in [FETCH, STORE] {
+            let mut disk = MemDisk::new(rt.alloc(), main, journal, &[])?;
+            let mut out = MemSink::new(rt.alloc(), &[])?;
+            let end = obey(rt.alloc(), words, &mut disk, &mut out)?;
+            assert_eq!(rt; out.written(), b"not a database\n".as_slice());
+            assert_eq!(rt; end, ended(Status::NotDatabase, 0));
+            assert_eq!(rt; disk.file(FileNo::Main), main);
+        }
+    }
+    Ok(())
+}
+
+#[test]
+fn a_fetch_over_a_closed_gate_changes_no_byte(rt: HostRuntime) -> Result<(), Fail> {
+    let whole = stored(rt.alloc())?;
+    let main = whole.file(FileNo::Main);
+    let mut disk = MemDisk::new(rt.alloc(), main, b"\0", &[])?;
+    let mut out = MemSink::new(rt.alloc(), &[])?;
+    obey(rt.alloc(), FETCH, &mut disk, &mut out)?;
+    assert_eq!(rt; out.written(), b"\"1\"\n".as_slice());
+    for moment in 0..=disk.calls() {
+        for choice in 0..5u8 {
+            if moment <= disk.calls() {
+                let image = disk.image(moment, choice)?;
+                assert_eq!(rt; image.main(), main, "{moment} {choice}");
+                assert_eq!(rt; image.journal(), b"\0".as_slice(), "{moment} {choice}");
+            }
+        }
     }
     Ok(())
 }

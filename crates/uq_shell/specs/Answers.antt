@@ -1,0 +1,82 @@
+-- What the code has read, as what it asks for; and how it answers that.
+use Rattle.std.specs.Prelude.{◌≡◌, ◌⊎◌, ◌≤◌, false, Result, Ok, Err, IfOk, IfErr}
+use Rattle.uq_facts.specs.Causes.{AtErr, Rose}
+use Rattle.uq_outside.specs.declared.disk.Disk.{Ghosts}
+use Rattle.uq_outside.specs.Since.{After, LeavesOnly}
+use Rattle.uq_journal.specs.Calls.{IsStill, RecoversAs}
+use Rattle.uq_model.specs.Session.{Session}
+use Rattle.uq_kv.specs.declared.kv.Kv.{Kv}
+use Rattle.uq_kv.specs.Holds.{RecoversToEither}
+use Rattle.uq_kv.specs.Kv.{Tells, disk_of, is_begun_of, limits_of}
+use Rattle.uq_kv.specs.Stored.{Stored}
+use Rattle.uq_shell.specs.Commands.{Request, begins_one, commits_one, fetches_key, reading, refuses_words, rolls_back_one, stores_key, writing}
+use Rattle.uq_kv.specs.declared.error.KvFault.{KvFault}
+use Rattle.uq_shell.specs.Replies.{Said, refuses, said_in, taken_as}
+use Rattle.uq_shell.specs.declared.reply.Refusal.{Refusal}
+use Rattle.uq_shell.specs.declared.answering.Answer.{Answer}
+use Rattle.uq_shell.specs.declared.command.Command.{Command}
+use Rattle.uq_shell.specs.declared.command.Command.TheVariants.{Store, Fetch, Begin, Commit, Rollback, Refused}
+use Rattle.uq_shell.specs.declared.status.Status.{Status}
+use Rattle.uq_shell.specs.declared.status.Status.TheVariants.{Disk, NotDatabase, Memory}
+
+abbrev pub request_of : Command → Request
+request_of (Store key value) = writing (stores_key key.now value.now)
+request_of (Fetch key) = reading (fetches_key key.now)
+request_of Begin = writing begins_one
+request_of Commit = writing commits_one
+request_of Rollback = reading rolls_back_one
+request_of (Refused refusal) = refuses_words refusal
+
+-- ---- what is said of an answer of the store
+
+-- a refusal is said, and another fault ends the run
+abbrev pub refused_as : Result Refusal Status → Result Said Status
+refused_as (Ok refusal) = Ok (refuses refusal)
+refused_as (Err status) = Err status
+
+abbrev pub said_by : {T : Type 0} → (T → Said) → Result T KvFault → Result Said Status
+said_by say (Ok value) = Ok (say value)
+said_by say (Err fault) = refused_as (taken_as fault)
+
+-- the answer says it, or the run ends by the fault or for want of memory
+pub record SaysBy {T : Type 0} (say : T → Said) (outcome : Result T KvFault) (result : Result Answer Status) : Type 0 where
+  pub said : IfOk result (λ answer. said_by say outcome ≡ Ok (said_in answer))
+  pub ends : IfErr result (λ status. (status ≡ Memory) ⊎ (said_by say outcome ≡ Err status))
+
+-- the same of a fault alone
+pub record RefusesBy (fault : KvFault) (result : Result Answer Status) : Type 0 where
+  pub said : IfOk result (λ answer. refused_as (taken_as fault) ≡ Ok (said_in answer))
+  pub ends : IfErr result (λ status. refused_as (taken_as fault) ≡ Err status)
+
+-- ---- what a command does to a store, and leaves of it
+
+-- A stop within leaves files that recover to what a stop before could leave.
+abbrev pub LeavesAlike : {D : Type 0} → Ghosts D → D → D → Type 0
+LeavesAlike g old new = LeavesOnly g old new (After g old RecoversAs)
+
+module _ {D : Type 0} (g : Ghosts D) where
+  -- Where the session is told, what is said is what is meant, and so is the session after it.
+  abbrev pub DoesAsAsked : Request → Kv D g → Kv D g → Answer → Type 0
+  DoesAsAsked asked old new answer =
+      (s : Session Stored) → Tells g old s
+      → (said_in answer ≡ (asked.does (limits_of g old) s).0) × Tells g new (asked.does (limits_of g old) s).1
+
+  -- A stop within leaves what was saved, or what is saved behind it.
+  abbrev pub LeavesEither : Request → Kv D g → Kv D g → Type 0
+  LeavesEither asked old new =
+      (s : Session Stored) → Tells g old s
+      → LeavesOnly g (disk_of g old).now (disk_of g new).now (RecoversToEither s.saved (asked.does (limits_of g old) s).1.saved)
+
+  -- what a command leaves, whatever it answers
+  pub record Leaves {T : Type 0} (asked : Request) (old new : Kv D g) (result : Result T Status) : Type 0 where
+    pub same_reference : (disk_of g new).ghost_name ≡ (disk_of g old).ghost_name
+    pub stop : LeavesEither asked old new
+    -- what writes nothing leaves the disk as it is, and what begins a transaction what the files recover to
+    pub still : asked.writes ≡ false → IsStill g (disk_of g old).now (disk_of g new).now
+    pub kept : is_begun_of g old ≡ false → LeavesAlike g (disk_of g old).now (disk_of g new).now
+    pub idle : asked.writes ≡ false → is_begun_of g old ≡ false → is_begun_of g new ≡ false
+    -- each status comes only for its cause, and no other
+    pub later : g.faults (disk_of g old).now ≤ g.faults (disk_of g new).now
+    pub disk : AtErr Disk result (Rose (g.faults (disk_of g old).now) (g.faults (disk_of g new).now))
+    pub corrupt : AtErr NotDatabase result ((s : Session Stored) → Tells g old s → ⊥)
+    pub others : IfErr result (λ status. (status ≡ Disk) ⊎ ((status ≡ NotDatabase) ⊎ (status ≡ Memory)))

@@ -1,0 +1,116 @@
+-- The commands: a table of their names and forms, and what each means over a session.
+use Rattle.std.specs.Prelude.{ℕ, Bool, true, false, bytes_eq, if◌then◌else◌, List, [], ◌∷◌, ◌++◌, Option, Result, Ok, Err}
+use Rattle.uq_json.specs.Quote.{quoted}
+use Rattle.std.specs.Prelude.{codes}
+use Rattle.uq_model.specs.Session.{Call, Session, begun, committed, rolled_back}
+use Rattle.uq_model.specs.declared.limits.Limits.{Limits}
+use Rattle.uq_kv.specs.Calls.{fetches, stores}
+use Rattle.uq_kv.specs.Stored.{Stored}
+use Rattle.uq_kv.specs.declared.error.KvFault.{KvFault}
+use Rattle.uq_kv.specs.declared.space.Space.TheVariants.{Keys}
+use Rattle.uq_shell.specs.Events.{Event, Out, Commit}
+use Rattle.uq_shell.specs.Line.{line_after}
+use Rattle.uq_shell.specs.Replies.{Said, refuses, says, says_ok, taken_as}
+use Rattle.uq_shell.specs.Statuses.{row}
+use Rattle.uq_shell.specs.declared.reply.Refusal.{Refusal}
+use Rattle.uq_shell.specs.declared.reply.Refusal.TheVariants.{BadCommand, UnknownCommand}
+use Rattle.uq_shell.specs.declared.status.Status.{Status}
+
+-- what words ask for: whether it may write, and what it says and makes of a session
+pub record Request : Type 0 where
+  pub writes : Bool
+  pub does : Limits → Call Stored Said
+
+abbrev pub reading : (Limits → Call Stored Said) → Request
+reading does = record { writes = false; does = does }
+
+abbrev pub writing : (Limits → Call Stored Said) → Request
+writing does = record { writes = true; does = does }
+
+-- ---- the meaning of each command
+
+-- a refusal of the store is replied; its definitions give no other fault
+abbrev pub refused_by : Result Refusal Status → Said
+refused_by (Ok refusal) = refuses refusal
+refused_by (Err status) = record { commits = false; text = (row status).text; is_refusal = true }
+
+-- what is said at Ok, or the refusal
+abbrev pub said_at : {T : Type 0} → (T → Said) → Result T KvFault → Said
+said_at say (Ok value) = say value
+said_at say (Err fault) = refused_by (taken_as fault)
+
+-- a call of the store, with what is said of its answer
+abbrev pub saying : {T : Type 0} → (T → Said) → Call Stored (Result T KvFault) → Call Stored Said
+saying say call s = (said_at say (call s).0, (call s).1)
+
+abbrev pub stores_key : List ℕ → List ℕ → Limits → Call Stored Said
+stores_key key value limits = saying (λ _. says_ok) (stores limits Keys key value)
+
+-- the data, as a JSON string
+abbrev pub fetches_key : List ℕ → Limits → Call Stored Said
+fetches_key key limits = saying (λ found. says (quoted found)) (fetches Keys key)
+
+abbrev pub begins_one : Limits → Call Stored Said
+begins_one limits s = (says_ok, begun s)
+
+-- the commit stands before the reply, where a transaction is begun
+abbrev pub commits_one : Limits → Call Stored Said
+commits_one limits s = (record says_ok { commits = s.begun }, committed s)
+
+abbrev pub rolls_back_one : Limits → Call Stored Said
+rolls_back_one limits s = (says_ok, rolled_back s)
+
+abbrev pub refuses_words : Refusal → Request
+refuses_words refusal = reading (λ limits s. (refuses refusal, s))
+
+-- ---- the table
+
+-- the words that stand behind a name, and what they then ask for
+pub data Form : Type 0 where
+  NoWord : Request → Form
+  OneWord : (List ℕ → Request) → Form
+  TwoWords : (List ℕ → List ℕ → Request) → Form
+
+-- a command: its name, and the form of its words with what they ask for
+pub record Row : Type 0 where
+  pub name : List ℕ
+  pub form : Form
+
+abbrev row_of : List ℕ → Form → Row
+row_of name form = record { name = name; form = form }
+
+abbrev pub commands : List Row
+commands =
+    row_of (codes "store") (TwoWords (λ key value. writing (stores_key key value)))
+    ∷ row_of (codes "fetch") (OneWord (λ key. reading (fetches_key key)))
+    ∷ row_of (codes "begin") (NoWord (writing begins_one))
+    ∷ row_of (codes "commit") (NoWord (writing commits_one))
+    ∷ row_of (codes "rollback") (NoWord (reading rolls_back_one))
+    ∷ []
+
+-- the words in this form; another number of words is refused
+abbrev pub filled : Form → List (List ℕ) → Request
+filled (NoWord request) [] = request
+filled (OneWord request) (word ∷ []) = request word
+filled (TwoWords request) (word ∷ next ∷ []) = request word next
+filled form words = refuses_words BadCommand
+
+-- words behind a name, in the form of its row
+abbrev pub request_in : List Row → List ℕ → List (List ℕ) → Request
+request_in [] name words = refuses_words UnknownCommand
+request_in (first ∷ rest) name words = if bytes_eq name first.name then filled first.form words else request_in rest name words
+
+-- a name and its words; no word at all is refused
+abbrev pub request : List (List ℕ) → Request
+request [] = refuses_words BadCommand
+request (name ∷ words) = request_in commands name words
+
+-- ---- events
+
+-- the commit of what was there, where one stands before the reply
+abbrev pub commit_before : Session Stored → Said → List Event
+commit_before s said = if said.commits then Commit s.present ∷ [] else []
+
+-- the events of a command over a session; its reply is a line behind what was written last
+abbrev pub events_of : Option ℕ → Session Stored → Said → List Event
+events_of last s said = commit_before s said ++ Out (line_after last said.text) ∷ []

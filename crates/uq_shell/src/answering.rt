@@ -1,0 +1,100 @@
+//! Commands are answered by the store.
+ghost use Rattle.std.specs.Prelude.{◌≡◌, true, false, None, IfOk, OnOk, IfErr};
+ghost use Rattle.uq_kv.specs.Kv.{closed_of, is_begun_of};
+ghost use Rattle.uq_json.specs.Quote.{quoted};
+ghost use Rattle.uq_shell.specs.Answers.{DoesAsAsked, Leaves, RefusesBy, SaysBy, request_of};
+ghost use Rattle.uq_shell.specs.Replies.{says, says_ok};
+
+use crate::Status;
+use crate::command::Command;
+use crate::reply::{Reply, refusal_of};
+use std::alloc::Global;
+use uq_json::quote;
+use uq_kv::{Kv, KvFault, Space};
+use uq_outside::Disk;
+
+/// What a command answers.
+#[derive(Debug, Drop)]
+pub struct Answer {
+    pub reply: Reply,
+    /// Whether a commit stands before the reply.
+    pub commits: bool,
+}
+
+/// Does what a command asks for.
+pub fn answer_command<D: Disk>(
+    alloc: Global,
+    command: Command<'_>,
+    kv: &mut Kv<'_, D>,
+) -> Result<Answer, Status>
+    requires { closed_of D.Disk kv.old ≡ None }
+    ensures does { IfOk result (DoesAsAsked D.Disk (request_of command.entry) kv.old kv.new) }
+    ensures open { OnOk result (closed_of D.Disk kv.new ≡ None) }
+    ensures whether { IfOk result (λ answer. answer.commits ≡ true → is_begun_of D.Disk kv.old ≡ true) }
+    ensures leaves { Leaves D.Disk (request_of command.entry) kv.old kv.new result }
+{
+    match command {
+        Command::Store { key, value } => done(kv.store(alloc, Space::Keys, key, value)),
+        Command::Fetch { key } => found(alloc, kv.fetch(alloc, Space::Keys, key)),
+        Command::Begin => done(kv.begin()),
+        Command::Commit => committed(kv.commit()),
+        Command::Rollback => done(kv.rollback()),
+        Command::Refused(refusal) => Ok(replying(Reply::Refused(refusal))),
+    }
+}
+
+/// An answer without a commit before it.
+fn replying(reply: Reply) -> Answer
+    ensures { result ≡ record { reply = reply; commits = false } }
+{
+    Answer {
+        reply,
+        commits: false,
+    }
+}
+
+/// The answer to a call that has nothing to tell.
+fn done(outcome: Result<(), KvFault>) -> Result<Answer, Status>
+    ensures { SaysBy (λ _. says_ok) outcome result }
+{
+    match outcome {
+        Ok(()) => Ok(replying(Reply::Ok)),
+        Err(fault) => refused(fault),
+    }
+}
+
+/// The answer to a commit, before which one stands where a transaction was begun.
+fn committed(outcome: Result<bool, KvFault>) -> Result<Answer, Status>
+    ensures { SaysBy (λ commits. record says_ok { commits = commits }) outcome result }
+{
+    match outcome {
+        Ok(commits) => Ok(Answer {
+            reply: Reply::Ok,
+            commits,
+        }),
+        Err(fault) => refused(fault),
+    }
+}
+
+/// The answer to a look-up: the data as a JSON string.
+fn found(alloc: Global, outcome: Result<Vec<u8>, KvFault>) -> Result<Answer, Status>
+    ensures { SaysBy (λ found. says (quoted found.items)) outcome result }
+{
+    match outcome {
+        Ok(data) => match quote(alloc, &data) {
+            Ok(text) => Ok(replying(Reply::Data(text))),
+            Err(_) => Err(Status::Memory),
+        },
+        Err(fault) => refused(fault),
+    }
+}
+
+/// The answer to a call that gave this fault.
+fn refused(fault: KvFault) -> Result<Answer, Status>
+    ensures { RefusesBy fault result }
+{
+    match refusal_of(fault) {
+        Ok(refusal) => Ok(replying(Reply::Refused(refusal))),
+        Err(status) => Err(status),
+    }
+}
