@@ -1,0 +1,14 @@
+pub mod World
+pub mod Meaning
+pub mod Operators
+pub mod Expression
+pub mod Statement
+pub mod Builtins
+pub mod Database
+pub mod Building
+pub mod Standard
+pub mod Script
+pub mod Compute
+pub mod Runs
+pub mod Rows
+pub mod Laws

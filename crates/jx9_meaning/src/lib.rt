@@ -1,0 +1,11 @@
+//! What a script means, as definitions that compute, and the laws of this meaning.
+#![tactic(auto)]
+
+mod fault;
+mod laws;
+
+pub use fault::FaultKind;
+pub use laws::{
+    call_rows, calls_leave_variables, ending_rows, every_script_ends, loop_rows, order_rows,
+    place_rows, scalar_rows, unit_rows,
+};
