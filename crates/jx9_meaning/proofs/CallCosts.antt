@@ -16,17 +16,21 @@ use Rattle.jx9_meaning.specs.Laws.{SavedUnlessBegun}
 use Rattle.jx9_meaning.specs.Meaning.{Spent, HostFailed, Unanswered, Meaning, Outcome, Goes, Ends, Unfinished, after, ◌>>=◌, fault, ok_or, tell, most_events, units_of}
 use Rattle.jx9_meaning.specs.Script.{Source, Callee, Written, BuiltIn, OfDatabase, OfHost, Nobody, or_else, as_callee, callee, function_named, lambda_named, answer_of, enters, leaves, most_active, call_written, has_size, charged, result, with_answers, answered, call_host, call_of, call}
 use Rattle.jx9_meaning.specs.Statement.{Signal}
-use Rattle.jx9_meaning.specs.World.{State, Commit, Host, Answer, Given, Failed, NoMemory, with_event}
+use Rattle.jx9_meaning.specs.World.{with_world, State, Commit, Host, Answer, Given, Failed, NoMemory, with_event}
 use Rattle.jx9_meaning.specs.declared.fault.FaultKind.{FaultKind}
 use Rattle.jx9_meaning.specs.declared.fault.FaultKind.TheVariants.{CallDepth}
-use Rattle.jx9_meaning.proofs.Moves.{moves_nowhere, moves_less}
+use Rattle.jx9_meaning.proofs.Moves.{Moves, moves_then, moves_still, moves_nowhere, moves_less}
 use Rattle.jx9_meaning.proofs.Steps.{Kept, Frugal, Owes, frugal_then, owes_then, owes, frugal_pure, frugal_ends, frugal_ok, frugal_take, frugal_fits, owes_tell, made, length_with}
 
 -- ---- what a row of the table must keep
 
+-- what it leaves has the saved store of before, and no other one where nothing is begun
+abbrev pub LeavesSaved : Shelf → Result (Value × Shelf) FaultKind → Type 0
+LeavesSaved before (Ok done) = (done.1.session.saved ≡ before.session.saved) × (SavedUnlessBegun before.session → SavedUnlessBegun done.1.session)
+LeavesSaved before (Err kind) = Unit {0}
+
 pub record KeepsSaved (f : List Value → Limits → Shelf → Result (Value × Shelf) FaultKind) : Type 0 where
-  pub saved : (vs : List Value) (limits : Limits) (before after' : Shelf) (v : Value) → f vs limits before ≡ Ok (v, after') → after'.session.saved ≡ before.session.saved
-  pub settled : (vs : List Value) (limits : Limits) (before after' : Shelf) (v : Value) → f vs limits before ≡ Ok (v, after') → SavedUnlessBegun before.session → SavedUnlessBegun after'.session
+  pub by : (vs : List Value) (limits : Limits) (before : Shelf) → LeavesSaved before (f vs limits before)
 
 abbrev pub IsSafe : DatabaseFunction → Type 0
 IsSafe (Serves f) = KeepsSaved f
@@ -112,21 +116,7 @@ module _ (n : ℕ) where
   -- ---- host functions
 
   frugal_answers : (rest : List Answer) → Frugal n (with_answers rest)
-  frugal_answers rest = record {
-    by = λ s l. (
-      record {
-        units = omega arith;
-        less = omega arith;
-        limits = refl;
-        hosts = refl;
-        more = [];
-        told = sym (append-nil s.events);
-        saved = refl;
-        settled = λ h. h;
-      },
-      refl,
-    );
-  }
+  frugal_answers rest = record { by = λ s l. (moves_still 0 s (with_world (record s.world { answers = rest }) s) (omega arith) refl refl refl refl, refl) }
 
   frugal_answered : (name : Bytes) (answers : List Answer) → Frugal n (answered name answers)
   frugal_answered name [] = frugal_ends n _
@@ -173,10 +163,12 @@ module _ (n : ℕ) where
 
   owes_serve : (line : ℕ) (f : DatabaseFunction) (vs : List Value) → IsSafe f → Owes n (serve line f vs)
   unfolding serve
-  owes_serve line (Serves f) vs h = owes n _ (record { by = λ s l. served s (f vs s.world.limits (shelf_in s.world)) refl })
+  owes_serve line (Serves f) vs h = owes n _ (record {
+    by = λ s l. served s (f vs s.world.limits (shelf_in s.world)) (h.by vs s.world.limits (shelf_in s.world));
+  })
     where
-      served : (s : State) (r : Result (Value × Shelf) FaultKind) → f vs s.world.limits (shelf_in s.world) ≡ r → Kept 0 0 s ((ok_or line r >>= stored) s)
-      served s (Ok done) e = (
+      served : (s : State) (r : Result (Value × Shelf) FaultKind) → LeavesSaved (shelf_in s.world) r → Kept 0 0 s ((ok_or line r >>= stored) s)
+      served s (Ok done) kept = (
         record {
           units = omega arith;
           less = omega arith;
@@ -184,12 +176,12 @@ module _ (n : ℕ) where
           hosts = refl;
           more = [];
           told = sym (append-nil s.events);
-          saved = h.saved vs s.world.limits (shelf_in s.world) done.1 done.0 e;
-          settled = h.settled vs s.world.limits (shelf_in s.world) done.1 done.0 e;
+          saved = kept.0;
+          settled = kept.1;
         },
         refl,
       )
-      served s (Err kind) e = moves_nowhere s
+      served s (Err kind) kept = moves_nowhere s
   owes_serve line Commits vs h = owes_commits line vs
 
 module _ (n : ℕ) (run : Statement → Meaning Signal) (fr : (t : Statement) → Frugal n (run t)) where
@@ -200,30 +192,14 @@ module _ (n : ℕ) (run : Statement → Meaning Signal) (fr : (t : Statement) �
       entered : State → Outcome Value
       entered s = after (run f.body (enters f vs s)) (λ signal t. Goes (answer_of signal) (leaves s t))
 
+      through_call : (s t u : State) → Moves 0 0 (enters f vs s) t → Moves 0 0 t u → Moves 0 0 s u
+      through_call s t u x y =
+          moves_then 0 0 0 0 0 0 s (enters f vs s) u (omega arith) (omega arith) (moves_still 0 s (enters f vs s) (omega arith) refl refl refl refl)
+          (moves_then 0 0 0 0 0 0 (enters f vs s) t u (omega arith) (omega arith) x y)
+
       left : (s : State) (r : Outcome Signal) → Kept 0 0 (enters f vs s) r → Kept 0 0 s (after r (λ signal t. Goes (answer_of signal) (leaves s t)))
-      left s (Goes signal t) x = (
-        record {
-          units = x.0.units;
-          less = x.0.less;
-          limits = x.0.limits;
-          hosts = x.0.hosts;
-          more = x.0.more;
-          told = x.0.told;
-          saved = x.0.saved;
-          settled = x.0.settled;
-        },
-        omega (arith, x.1),
-      )
-      left s (Ends e t) x = record {
-        units = x.units;
-        less = x.less;
-        limits = x.limits;
-        hosts = x.hosts;
-        more = x.more;
-        told = x.told;
-        saved = x.saved;
-        settled = x.settled;
-      }
+      left s (Goes signal t) x = (through_call s t (leaves s t) x.0 (moves_still 0 t (leaves s t) (omega arith) refl refl refl refl), omega (arith, x.1))
+      left s (Ends e t) x = through_call s t t x (moves_nowhere t)
       left s Unfinished x = x
 
       by_depth : (s : State) → s.world.units < n → (b : Bool) → Kept 0 0 s (if b then entered s else fault line CallDepth s)

@@ -5,7 +5,7 @@ use Rattle.uq_value.specs.Number.{number}
 use Rattle.uq_value.specs.Put.{put}
 use Rattle.uq_value.specs.Same.{alike}
 use Rattle.uq_value.specs.Truth.{truth}
-use Rattle.uq_value.specs.declared.step.Step.{Step as Key}
+use Rattle.uq_value.specs.declared.step.Step.{Step as ValueStep}
 use Rattle.uq_value.specs.declared.value.Value.{Value}
 use Rattle.jx9_syntax.specs.Trees.{ExprLayer, AccessLayer, node_of, access_of}
 use Rattle.jx9_syntax.specs.declared.expression.Access.{Access}
@@ -19,7 +19,7 @@ use Rattle.jx9_syntax.specs.declared.expression.Place.{Place}
 use Rattle.jx9_syntax.specs.declared.expression.Step.{Step}
 use Rattle.jx9_syntax.specs.declared.parts.Part.{Part}
 use Rattle.jx9_syntax.specs.declared.parts.Part.TheVariants as part
-use Rattle.jx9_meaning.specs.Expression.{part_value, read_place, write_place, operation, change_units, stepped, shown, value_at, key_at, keys, path_step, entry, link, deciding, step, assign, append_to, change, choice, value_of, evaluated}
+use Rattle.jx9_meaning.specs.Expression.{part_value, read_place, write_place, operation, change_units, stepped, shown, value_at, access_step, place_steps, path_step, entry, link, deciding, step, assign, append_to, change, choice, value_of, evaluated}
 use Rattle.jx9_meaning.specs.Meaning.{Meaning}
 use Rattle.jx9_meaning.specs.Operators.{operate}
 use Rattle.jx9_meaning.specs.declared.fault.FaultKind.TheVariants.{NotNumber}
@@ -30,10 +30,10 @@ module _ (n : ℕ) where
   frugal_part (part.Text bs) = frugal_pure n _
   frugal_part (part.Var name) = frugal_read n name
 
-  frugal_read_place : (place : Place) (ks : List Key) → Frugal n (read_place place ks)
+  frugal_read_place : (place : Place) (ks : List ValueStep) → Frugal n (read_place place ks)
   frugal_read_place place ks = frugal_then n _ _ (frugal_read n place.name) (λ v. frugal_pure n (value_at v ks))
 
-  frugal_write_place : (line : ℕ) (place : Place) (ks : List Key) (v : Value) → Frugal n (write_place line place ks v)
+  frugal_write_place : (line : ℕ) (place : Place) (ks : List ValueStep) (v : Value) → Frugal n (write_place line place ks v)
   unfolding write_place
   frugal_write_place line place ks v =
       frugal_then n _ _ (frugal_read n place.name) (λ root. frugal_then n _ _ (frugal_put n line (put root ks v)) (λ c. frugal_then n _ _ (frugal_write n place.name c) (λ _. frugal_pure n v)))
@@ -43,12 +43,12 @@ module _ (n : ℕ) where
   frugal_operation line old Join v = frugal_fits n line _
 
 module _ (n : ℕ) (expr : Expr → Meaning Value) (calls : ℕ → Value → List Value → Meaning Value) (fe : (e : Expr) → Frugal n (expr e)) (fc : (line : ℕ) (f : Value) (vs : List Value) → Owes n (calls line f vs)) where
-  frugal_key : (a : AccessLayer) → Frugal n (key_at expr calls a)
+  frugal_key : (a : AccessLayer) → Frugal n (access_step expr calls a)
   frugal_key (Access-F.Member name) = frugal_pure n _
   frugal_key (Access-F.Index e) = frugal_then n _ _ (fe e) (λ x. frugal_pure n _)
 
-  frugal_keys : (place : Place) → Frugal n (keys expr calls place)
-  unfolding keys
+  frugal_keys : (place : Place) → Frugal n (place_steps expr calls place)
+  unfolding place_steps
   frugal_keys place = frugal_each n _ (λ a. frugal_key (access_of a)) place.steps
 
   frugal_path : (v : Value) (a : Access) → Frugal n (path_step expr calls v a)

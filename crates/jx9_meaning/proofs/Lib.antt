@@ -5,4 +5,10 @@ pub mod ExpressionCosts
 pub mod StatementCosts
 pub mod CallCosts
 pub mod Ends
+pub mod Own
 pub mod Variables
+pub mod Unwritten
+pub mod Budgets
+pub mod ExpressionBudgets
+pub mod StatementBudgets
+pub mod CallBudgets

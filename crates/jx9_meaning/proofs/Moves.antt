@@ -1,6 +1,7 @@
 -- What a step may have changed: units, events, and the saved store.
-use Rattle.std.proofs.Common.{◌≡◌, ℕ, ◌+◌, ◌*◌, ◌≤◌, List, [], ◌∷◌, ◌++◌, length, refl, sym, ◌∙◌, ap, arith, append-nil}
+use Rattle.std.proofs.Common.{◌≡◌, ℕ, ◌+◌, ◌*◌, ◌≤◌, List, [], ◌∷◌, ◌++◌, length, refl, sym, ◌∙◌, ap, arith, append-nil, subst}
 use Rattle.std.proofs.lemmas.List.{append_assoc}
+use Rattle.uq_model.specs.Session.{Session}
 use Rattle.uq_model.specs.Store.{Store}
 use Rattle.jx9_meaning.specs.Laws.{last_saved, SavedUnlessBegun}
 use Rattle.jx9_meaning.specs.World.{State, Event, Out, Commit, Host}
@@ -51,14 +52,18 @@ moves_less d k d' k' s t c1 c2 a = record {
   settled = a.settled;
 }
 
-pub moves_nowhere : (s : State) → Moves 0 0 s s
-moves_nowhere s = record {
-  units = omega arith;
-  less = omega arith;
-  limits = refl;
-  hosts = refl;
+-- only units, variables, answers or the number of active calls changed
+pub moves_still : (d : ℕ) (s t : State) → d + t.world.units ≤ s.world.units → t.events ≡ s.events → t.world.limits ≡ s.world.limits → t.world.hosts ≡ s.world.hosts → t.world.session ≡ s.world.session → Moves d 0 s t
+moves_still d s t u es ls hs ss = record {
+  units = u;
+  less = let count : length t.events ≡ length s.events = ap length es in omega (arith, u, count);
+  limits = ls;
+  hosts = hs;
   more = [];
-  told = sym (append-nil s.events);
-  saved = refl;
-  settled = λ h. h;
+  told = es ∙ sym (append-nil s.events);
+  saved = ap (λ (x : Session Store). x.saved) ss;
+  settled = λ h. subst SavedUnlessBegun (sym ss) h;
 }
+
+pub moves_nowhere : (s : State) → Moves 0 0 s s
+moves_nowhere s = moves_still 0 s s (omega arith) refl refl refl refl

@@ -1,5 +1,5 @@
 -- Steps one after the other, and what they may have changed together.
-use Rattle.std.proofs.Common.{◌≡◌, ℕ, suc, ◌+◌, ◌<◌, ◌≤◌, List, [], ◌∷◌, ◌++◌, length, Option, Some, None, refl, sym, ◌∙◌, arith, append-nil}
+use Rattle.std.proofs.Common.{◌≡◌, ℕ, suc, ◌+◌, ◌<◌, ◌≤◌, List, [], ◌∷◌, ◌++◌, length, Option, Some, None, refl, ◌∙◌, arith}
 use Rattle.std.specs.Prelude.{Bool, true, false, if◌then◌else◌, nat_lt, Result, Ok, Err}
 use Rattle.std.proofs.lemmas.Bool.{ltb-false}
 use Rattle.std.proofs.lemmas.List.{length-append}
@@ -10,7 +10,7 @@ use Rattle.jx9_meaning.specs.Laws.{last_saved}
 use Rattle.jx9_meaning.specs.Meaning.{Ending, Spent, Meaning, Outcome, Goes, Ends, Unfinished, after, ◌>>=◌, ◌>>◌, pure, ends, some_or, ok_or, put_or, spend, take, read, write, tell, most_events, fits, sized, each, through}
 use Rattle.jx9_meaning.specs.World.{State, Event, Out, Commit, Host, with_variable, with_event}
 use Rattle.jx9_meaning.specs.declared.fault.FaultKind.{FaultKind}
-use Rattle.jx9_meaning.proofs.Moves.{Moves, weight, moves_then, moves_less, moves_nowhere}
+use Rattle.jx9_meaning.proofs.Moves.{Moves, weight, moves_then, moves_less, moves_nowhere, moves_still}
 
 -- it is finished, and has moved so; where it goes on, as many functions are active as before
 abbrev pub Kept : {A : Type 0} → ℕ → ℕ → State → Outcome A → Type 0
@@ -109,44 +109,25 @@ pub frugal_write : (n : ℕ) (name : Bytes) (v : Value) → Frugal n (write name
 unfolding with_variable
 frugal_write n name v = record {
   by = λ s l. (
-    record {
-      units = omega arith;
-      less = omega arith;
-      limits = refl;
-      hosts = refl;
-      more = [];
-      told = sym (append-nil s.events);
-      saved = refl;
-      settled = λ h. h;
-    },
+    moves_still 0 s (with_variable name v s) (omega arith) refl refl refl refl,
     refl,
   );
 }
 
 -- ---- units
 
-taken : ℕ → State → Bool → Outcome (Unit {0})
+abbrev pub taken : ℕ → State → Bool → Outcome (Unit {0})
 taken k s b = if b then Ends Spent s else Goes tt (spend k s)
 
 takes : (s : State) (k d : ℕ) → d ≤ k → (b : Bool) → nat_lt s.world.units k ≡ b → Kept d 0 s (taken k s b)
-unfolding taken
 takes s k d c true e = moves_nowhere s
 takes s k d c false e = (
-  record {
-    units = omega (arith, ltb-false s.world.units k e, c);
-    less = omega (arith, ltb-false s.world.units k e, c);
-    limits = refl;
-    hosts = refl;
-    more = [];
-    told = sym (append-nil s.events);
-    saved = refl;
-    settled = λ h. h;
-  },
+  moves_still d s (spend k s) (omega (arith, ltb-false s.world.units k e, c)) refl refl refl refl,
   refl,
 )
 
 pub frugal_take : (n k : ℕ) → Frugal n (take k)
-unfolding take taken
+unfolding take
 frugal_take n k = record { by = λ s l. takes s k 0 (omega arith) (nat_lt s.world.units k) refl }
 
 -- a unit has the weight of two events
@@ -155,21 +136,12 @@ takes_one s b e = takes s 1 1 (omega arith) b e
 
 -- a unit, and then the rest, which has fewer, and may owe an event
 pub spends_unit : {A : Type 0} (n : ℕ) (q : Meaning A) → Owes n q → Spends (suc n) (take 1 >> q)
-unfolding take taken
+unfolding take
 spends_unit {A} n q h = record { by = λ s l. by_units s l (nat_lt s.world.units 1) refl }
   where
     spent : (s : State) → nat_lt s.world.units 1 ≡ false → Moves 1 0 s (spend 1 s) × (2 + weight (spend 1 s) ≤ weight s)
     spent s e = (
-      record {
-        units = omega (arith, ltb-false s.world.units 1 e);
-        less = omega (arith, ltb-false s.world.units 1 e);
-        limits = refl;
-        hosts = refl;
-        more = [];
-        told = sym (append-nil s.events);
-        saved = refl;
-        settled = λ h. h;
-      },
+      moves_still 1 s (spend 1 s) (omega (arith, ltb-false s.world.units 1 e)) refl refl refl refl,
       omega (arith, ltb-false s.world.units 1 e),
     )
 

@@ -25,7 +25,7 @@ unfolding
     Rattle.jx9_meaning.specs.World.variable Rattle.jx9_meaning.specs.World.with_variable Rattle.jx9_meaning.specs.World.with_event
     Rattle.jx9_meaning.specs.Meaning.take Rattle.jx9_meaning.specs.Meaning.tell Rattle.jx9_meaning.specs.Meaning.fits Rattle.jx9_meaning.specs.Meaning.sized
     Rattle.jx9_meaning.specs.Operators.operate
-    Rattle.jx9_meaning.specs.Expression.write_place Rattle.jx9_meaning.specs.Expression.keys Rattle.jx9_meaning.specs.Expression.path_step
+    Rattle.jx9_meaning.specs.Expression.write_place Rattle.jx9_meaning.specs.Expression.place_steps Rattle.jx9_meaning.specs.Expression.path_step
     Rattle.jx9_meaning.specs.Expression.entry Rattle.jx9_meaning.specs.Expression.link Rattle.jx9_meaning.specs.Expression.step
     Rattle.jx9_meaning.specs.Expression.assign Rattle.jx9_meaning.specs.Expression.append_to Rattle.jx9_meaning.specs.Expression.change
     Rattle.jx9_meaning.specs.Expression.choice Rattle.jx9_meaning.specs.Expression.evaluated

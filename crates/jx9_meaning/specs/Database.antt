@@ -28,7 +28,7 @@ pub data DatabaseFunction : Type 0 where
   -- `db_commit`
   Commits : DatabaseFunction
 
--- The table: a row for each function.
+-- The table: a row for each function. That it never touches the saved store is shown for each (`rows_are_safe`).
 abbrev pub database : List (Bytes × DatabaseFunction)
 database = []
 

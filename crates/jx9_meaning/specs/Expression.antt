@@ -1,16 +1,17 @@
 -- What an expression means, where `expr` is the meaning of the expressions within, and `call` that of a call.
 use Rattle.std.specs.Prelude.{ℕ, Bool, true, false, not, if◌then◌else◌, pos, List, [], ◌∷◌, ◌++◌, map, unwrap_or, codes}
 use Rattle.std.specs.Fmt.{signed_decimal}
-use Rattle.uq_value.specs.Data.{Bytes, Pairs}
+use Rattle.uq_value.specs.Data.{Bytes}
 use Rattle.uq_value.specs.Number.{number}
 use Rattle.uq_value.specs.Plain.{plain}
-use Rattle.uq_value.specs.Put.{put, with_member}
+use Rattle.uq_value.specs.Put.{put}
 use Rattle.uq_value.specs.Reading.{get_member, get_index}
 use Rattle.uq_value.specs.Same.{alike}
 use Rattle.uq_value.specs.Truth.{truth}
-use Rattle.uq_value.specs.declared.step.Step.{Step as Key}
-use Rattle.uq_value.specs.declared.step.Step.TheVariants as key
+use Rattle.uq_value.specs.declared.step.Step.{Step as ValueStep}
+use Rattle.uq_value.specs.declared.step.Step.TheVariants as value_step
 use Rattle.uq_value.specs.declared.value.Value.{Value}
+use Rattle.uq_json.specs.Grammar.{merged}
 use Rattle.uq_json.specs.Text.{text_of}
 use Rattle.jx9_syntax.specs.Trees.{ExprLayer, AccessLayer, node_of, access_of}
 use Rattle.jx9_syntax.specs.declared.expression.Access.{Access}
@@ -50,27 +51,23 @@ joined (v ∷ vs) = text_of v ++ joined vs
 abbrev pub lambda_name : ℕ → Bytes
 lambda_name n = codes "[lambda_" ++ signed_decimal (pos n) ++ codes "]"
 
--- a repeated member keeps its place and takes the last value
-abbrev pub members_of : Pairs → List (Bytes × Value) → Pairs
-members_of done [] = done
-members_of done (m ∷ ms) = members_of (with_member m.0 (plain m.1) done) ms
-
 abbrev pub list_of : List Value → Value
 list_of vs = Value.List (map plain vs)
 
+-- a repeated member keeps its place and takes the last value
 abbrev pub object_of : List (Bytes × Value) → Value
-object_of ms = Value.Object (members_of [] ms)
+object_of ms = Value.Object (merged (map (λ m. (m.0, plain m.1)) ms))
 
 -- ---- places
 
 -- what stands at a step, null where nothing does
-abbrev pub value_behind : Value → Key → Value
-value_behind v (key.Member name) = unwrap_or (get_member v name) Value.Null
-value_behind v (key.Index at) = unwrap_or (get_index v at) Value.Null
-value_behind v key.Append = Value.Null
+abbrev pub value_behind : Value → ValueStep → Value
+value_behind v (value_step.Member name) = unwrap_or (get_member v name) Value.Null
+value_behind v (value_step.Index at) = unwrap_or (get_index v at) Value.Null
+value_behind v value_step.Append = Value.Null
 
 -- what stands at these steps
-abbrev pub value_at : Value → List Key → Value
+abbrev pub value_at : Value → List ValueStep → Value
 value_at v [] = v
 value_at v (k ∷ ks) = value_at (value_behind v k) ks
 
@@ -93,13 +90,13 @@ abbrev pub part_value : Part → Meaning Value
 part_value (part.Text bs) = pure (Value.Text bs)
 part_value (part.Var name) = read name
 
-abbrev pub read_place : Place → List Key → Meaning Value
+abbrev pub read_place : Place → List ValueStep → Meaning Value
 read_place place ks = do
   root ← read place.name
   pure (value_at root ks)
 
 -- The root is read when it is written. The value is what was written.
-unfoldable pub write_place : ℕ → Place → List Key → Value → Meaning Value
+unfoldable pub write_place : ℕ → Place → List ValueStep → Value → Meaning Value
 write_place line place ks new = do
   root ← read place.name
   changed ← put_or line (put root ks new)
@@ -119,20 +116,20 @@ change_units Join v = units_of v
 -- ---- nodes
 
 module _ (expr : Expr → Meaning Value) (call : ℕ → Value → List Value → Meaning Value) where
-  abbrev pub key_at : AccessLayer → Meaning Key
-  key_at (Access-F.Member name) = pure (key.Member name)
-  key_at (Access-F.Index e) = do
+  abbrev pub access_step : AccessLayer → Meaning ValueStep
+  access_step (Access-F.Member name) = pure (value_step.Member name)
+  access_step (Access-F.Index e) = do
     at ← expr e
-    pure (key.Index at)
+    pure (value_step.Index at)
 
   -- the index expressions of a place go from the left
-  unfoldable pub keys : Place → Meaning (List Key)
-  keys place = each (λ a. key_at (access_of a)) place.steps
+  unfoldable pub place_steps : Place → Meaning (List ValueStep)
+  place_steps place = each (λ a. access_step (access_of a)) place.steps
 
   -- one step of a path, whose index expression goes just before it
   unfoldable pub path_step : Value → Access → Meaning Value
   path_step v a = do
-    k ← key_at (access_of a)
+    k ← access_step (access_of a)
     pure (value_behind v k)
 
   unfoldable pub entry : Entry → Meaning (Bytes × Value)
@@ -155,7 +152,7 @@ module _ (expr : Expr → Meaning Value) (call : ℕ → Value → List Value �
 
   unfoldable pub step : ℕ → Step → Place → Meaning Value
   step line s place = do
-    ks ← keys place
+    ks ← place_steps place
     v ← read_place place ks
     old ← some_or line NotNumber (number v)
     new ← ok_or line (operate (stepped s) (Value.Int old) (Value.Int (pos 1)))
@@ -164,20 +161,20 @@ module _ (expr : Expr → Meaning Value) (call : ℕ → Value → List Value �
 
   unfoldable pub assign : ℕ → Place → Expr → Meaning Value
   assign line place e = do
-    ks ← keys place
+    ks ← place_steps place
     v ← expr e
     write_place line place ks v
 
   unfoldable pub append_to : ℕ → Place → Expr → Meaning Value
   append_to line place e = do
-    ks ← keys place
+    ks ← place_steps place
     v ← expr e
-    write_place line place (ks ++ key.Append ∷ []) v
+    write_place line place (ks ++ value_step.Append ∷ []) v
 
   -- the place is read after the right side
   unfoldable pub change : ℕ → Place → Change → Expr → Meaning Value
   change line place how e = do
-    ks ← keys place
+    ks ← place_steps place
     b ← expr e
     old ← read_place place ks
     new ← operation line old how b

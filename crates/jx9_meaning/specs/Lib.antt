@@ -12,3 +12,4 @@ pub mod Compute
 pub mod Runs
 pub mod Rows
 pub mod Laws
+pub mod Writes

@@ -11,13 +11,13 @@ use Rattle.jx9_meaning.specs.Script.{Source, Ended, script}
 use Rattle.jx9_meaning.specs.Standard.{prelude}
 use Rattle.jx9_meaning.specs.World.{World, Event, Out, world_of}
 
--- a text of functions, lambdas and statements
-abbrev pub text_of : List Named → List Function → List Statement → Source
-text_of functions lambdas ts = record { functions = prelude ++ functions; lambdas = lambdas; statements = ts }
+-- a script of functions, lambdas and statements
+abbrev pub script_of : List Named → List Function → List Statement → Source
+script_of functions lambdas ts = record { functions = prelude ++ functions; lambdas = lambdas; statements = ts }
 
 -- of statements alone
 abbrev pub statements : List Statement → Source
-statements ts = text_of [] [] ts
+statements ts = script_of [] [] ts
 
 -- with so many units, over an empty store that may hold nothing more
 abbrev pub world_with : ℕ → World

@@ -1,6 +1,6 @@
 //! Worked scripts and laws of the meaning, each the contract of a call that does nothing.
 
-ghost use Rattle.jx9_meaning.specs.Laws.{EndsWell, LeavesVariables};
+ghost use Rattle.jx9_meaning.specs.Laws.{EndsWell, KeepsUnwritten, LargerBudget, LeavesVariables};
 ghost use Rattle.jx9_meaning.specs.Rows.Scalars.{ScalarRows};
 ghost use Rattle.jx9_meaning.specs.Rows.Orders.{OrderRows};
 ghost use Rattle.jx9_meaning.specs.Rows.Places.{PlaceRows};
@@ -20,6 +20,16 @@ pub fn every_script_ends()
 /// A call leaves the variables of its caller as they are, whatever it runs.
 pub fn calls_leave_variables()
     ensures { LeavesVariables }
+{}
+
+/// A variable that an expression does not write itself is as before, whatever it evaluates and calls.
+pub fn unwritten_variables_stay()
+    ensures { KeepsUnwritten }
+{}
+
+/// With more units, a script that is not spent has the same events and the same end, and as many units more left.
+pub fn larger_budgets_change_nothing()
+    ensures { LargerBudget }
 {}
 
 /// Numbers, comparisons, equalities and truth.

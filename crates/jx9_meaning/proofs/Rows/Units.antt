@@ -9,5 +9,6 @@ unit_rows = record {
   variable_in_text = refl;
   grown = refl;
   grown_and_joined = refl;
+  faults_before_units = refl;
   fewer_left_than_taken = refl;
 }

@@ -1,6 +1,6 @@
 -- Scripts on statements.
 use Rattle.std.specs.Prelude.{[], ◌∷◌, codes, Some, None, true}
-use Rattle.jx9_syntax.specs.declared.expression.Binary.TheVariants.{Divide, Equal, Less}
+use Rattle.jx9_syntax.specs.declared.expression.Binary.TheVariants.{Divide, Equal, Less, Same}
 use Rattle.jx9_syntax.specs.declared.expression.Step.TheVariants.{DecrementAfter, IncrementAfter}
 use Rattle.jx9_meaning.specs.Building.{append, assign, block, boolean, break, continue, do_expr, empty, entry, for, foreach, if_of, list, null, number, object, operation, place, print, return, return_null, set, step, text, var, when, while, branch}
 use Rattle.jx9_meaning.specs.Meaning.{Done, Fault}
@@ -39,6 +39,10 @@ pub record LoopRows : Type 0 where
   pub branches : Runs (statements (if_of 1
       (branch (number 1 0) (print 1 (number 1 1 ∷ [])) ∷ branch (text 1 "") (print 1 (number 1 2 ∷ [])) ∷ [])
       (Some (print 1 (number 1 3 ∷ []))) ∷ [])) 100 (codes "3" ∷ []) Done 95
+  -- if (1) print 1; elseif (1) print 2;
+  pub first_true_branch : Runs (statements
+      (if_of 1 (branch (number 1 1) (print 1 (number 1 1 ∷ [])) ∷ branch (number 1 1)
+      (print 1 (number 1 2 ∷ [])) ∷ []) None ∷ [])) 100 (codes "1" ∷ []) Done 96
   -- if (0) print 1; print 2;
   pub no_branch : Runs (statements (when 1 (number 1 0) (print 1 (number 1 1 ∷ [])) ∷ print 1
       (number 1 2 ∷ []) ∷ [])) 100 (codes "2" ∷ []) Done 96
@@ -68,6 +72,9 @@ pub record LoopRows : Type 0 where
       (foreach 1 (object 1 (entry "a" (number 1 1) ∷ entry "b" (number 1 2) ∷ [])) (Some "k") "v"
       (block 1 (print 1 (var 1 "k" ∷ var 1 "v" ∷ []) ∷ [])) ∷ [])) 100
       (codes "a" ∷ codes "1" ∷ codes "b" ∷ codes "2" ∷ []) Done 88
+  -- foreach ([5] as $k, $v) print $k === 0;
+  pub keys_are_numbers : Runs (statements (foreach 1 (list 1 (number 1 5 ∷ [])) (Some "k") "v"
+      (print 1 (operation 1 Same (var 1 "k") (number 1 0) ∷ [])) ∷ [])) 100 (codes "true" ∷ []) Done 93
   -- foreach (null as $v) { print 1; } print 2;
   pub foreach_over_null : Runs (statements
       (foreach 1 (null 1) None "v" (block 1 (print 1 (number 1 1 ∷ []) ∷ [])) ∷ print 1

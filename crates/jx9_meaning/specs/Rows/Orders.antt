@@ -5,19 +5,19 @@ use Rattle.jx9_syntax.specs.declared.expression.Change.TheVariants.{By}
 use Rattle.jx9_syntax.specs.declared.expression.Step.TheVariants.{DecrementAfter, DecrementFirst, IncrementAfter, IncrementFirst}
 use Rattle.jx9_meaning.specs.Building.{and_of, assign, call, chain, change, cond, do_expr, group, index, join, link, list, member, named, null, number, operation, or_of, place, place_at, print, return, set, step, text, var, var_call}
 use Rattle.jx9_meaning.specs.Meaning.{Done, Fault}
-use Rattle.jx9_meaning.specs.Runs.{statements, text_of, Runs}
+use Rattle.jx9_meaning.specs.Runs.{statements, script_of, Runs}
 use Rattle.jx9_meaning.specs.declared.fault.FaultKind.TheVariants.{NotNumber, UnknownFunction}
 
 pub record OrderRows : Type 0 where
   -- function f() { print 'f'; return 1; } print 'x' - 1 - f();
   -- (the first operator goes before the last operand)
-  pub chain_from_the_left : Runs (text_of (named 1 "f" []
-      (print 1 (text 1 "f" ∷ []) ∷ return 1 (number 1 1) ∷ []) ∷ []) []
+  pub chain_from_the_left : Runs (script_of
+      (named 1 "f" [] (print 1 (text 1 "f" ∷ []) ∷ return 1 (number 1 1) ∷ []) ∷ []) []
       (print 1 (chain 1 (text 1 "x") (link Subtract (number 1 1) ∷ link Subtract
       (call 1 "f" []) ∷ []) ∷ []) ∷ [])) 100 [] (Fault NotNumber 1) 96
   -- function f() { print 'f'; return 1; } print 'a' .. f();
   -- (3 nodes; a block, 2 statements, 2 nodes)
-  pub join_after_all : Runs (text_of (named 1 "f" []
+  pub join_after_all : Runs (script_of (named 1 "f" []
       (print 1 (text 1 "f" ∷ []) ∷ return 1 (number 1 1) ∷ []) ∷ []) []
       (print 1 (join 1 (text 1 "a" ∷ call 1 "f" [] ∷ []) ∷ []) ∷ [])) 100 (codes "f" ∷ codes "a1" ∷ []) Done 91
   -- print 0 && 1/0, 1 && 2;
@@ -86,11 +86,11 @@ pub record OrderRows : Type 0 where
       (codes "4" ∷ codes "2" ∷ []) Done 93
   -- function f() { print 'f'; } $g = 'nobody'; $g(f());
   -- (3, 3 and a block, a statement, a node)
-  pub arguments_before_nobody : Runs (text_of (named 1 "f" [] (print 1 (text 1 "f" ∷ []) ∷ []) ∷ []) []
+  pub arguments_before_nobody : Runs (script_of (named 1 "f" [] (print 1 (text 1 "f" ∷ []) ∷ []) ∷ []) []
       (set 1 "g" (text 1 "nobody") ∷ do_expr 1 (var_call 1 "g" (call 1 "f" [] ∷ [])) ∷ [])) 100 (codes "f" ∷ [])
       (Fault UnknownFunction 1) 91
   -- function f() { return 1; } $g = 'f'; print $g($g = 2);
   -- (3, 4, 3)
-  pub variable_before_arguments : Runs (text_of (named 1 "f" [] (return 1 (number 1 1) ∷ []) ∷ []) []
+  pub variable_before_arguments : Runs (script_of (named 1 "f" [] (return 1 (number 1 1) ∷ []) ∷ []) []
       (set 1 "g" (text 1 "f") ∷ print 1 (var_call 1 "g" (assign 1 (place "g") (number 1 2) ∷ []) ∷ []) ∷ [])) 100
       (codes "1" ∷ []) Done 90

@@ -1,9 +1,9 @@
 -- Scripts on scalars.
 use Rattle.std.specs.Prelude.{[], ◌∷◌, codes, true, false}
-use Rattle.jx9_syntax.specs.declared.expression.Binary.TheVariants.{Add, Divide, Equal, Greater, GreaterOrEqual, Less, Multiply, NotSame, Remainder, Same, Subtract}
+use Rattle.jx9_syntax.specs.declared.expression.Binary.TheVariants.{Add, Divide, Equal, Greater, GreaterOrEqual, Less, LessOrEqual, Multiply, NotEqual, NotSame, Remainder, Same, Subtract}
 use Rattle.jx9_syntax.specs.declared.expression.Change.TheVariants.{By, Join}
 use Rattle.jx9_syntax.specs.declared.expression.Step.TheVariants.{IncrementAfter}
-use Rattle.jx9_meaning.specs.Building.{block, boolean, change, do_expr, entry, group, list, negate, not_of, null, number, object, operation, place, print, set, step, text, var, while}
+use Rattle.jx9_meaning.specs.Building.{block, boolean, change, do_expr, entry, group, join, list, negate, not_of, null, number, object, operation, place, print, set, step, text, var, while}
 use Rattle.jx9_meaning.specs.Meaning.{Done, Fault, Spent}
 use Rattle.jx9_meaning.specs.Runs.{statements, Runs}
 use Rattle.jx9_meaning.specs.declared.fault.FaultKind.TheVariants.{NotNumber, Overflow, ZeroDivisor}
@@ -51,14 +51,15 @@ pub record ScalarRows : Type 0 where
   -- print 1, 2;
   -- (what was put out stays)
   pub spent_between : Runs (statements (print 1 (number 1 1 ∷ number 1 2 ∷ []) ∷ [])) 2 (codes "1" ∷ []) Spent 0
-  -- print null == false, 0 == '0', '1' == 1, '1' == '01', [] == [], 1 == true, 'a' == 0, '01' == 1;
-  -- (8 chains of 3 nodes)
+  -- print null == false, 0 == '0', '1' == 1, '1' == '01', [] == [], 1 == true, 'a' == 0, '01' == 1, 1 != '1', 1 != 2;
+  -- (10 chains of 3 nodes)
   pub loose : Runs (statements (print 1 (operation 1 Equal (null 1) (boolean 1 false) ∷ operation 1 Equal
       (number 1 0) (text 1 "0") ∷ operation 1 Equal (text 1 "1") (number 1 1) ∷ operation 1 Equal (text 1 "1")
       (text 1 "01") ∷ operation 1 Equal (list 1 []) (list 1 []) ∷ operation 1 Equal (number 1 1) (boolean 1 true)
-      ∷ operation 1 Equal (text 1 "a") (number 1 0) ∷ operation 1 Equal (text 1 "01") (number 1 1) ∷ []) ∷ []))
-      100 (codes "true" ∷ codes "true" ∷ codes "true" ∷ codes "false" ∷ codes "true" ∷ codes "true"
-      ∷ codes "false" ∷ codes "true" ∷ []) Done 75
+      ∷ operation 1 Equal (text 1 "a") (number 1 0) ∷ operation 1 Equal (text 1 "01") (number 1 1)
+      ∷ operation 1 NotEqual (number 1 1) (text 1 "1") ∷ operation 1 NotEqual (number 1 1)
+      (number 1 2) ∷ []) ∷ [])) 100 (codes "true" ∷ codes "true" ∷ codes "true" ∷ codes "false" ∷ codes "true"
+      ∷ codes "true" ∷ codes "false" ∷ codes "true" ∷ codes "false" ∷ codes "true" ∷ []) Done 69
   -- print 1 === '1', [1] === [1], {a:1, b:2} === {b:2, a:1}, 1 !== '1';
   -- (3, 5, 7 and 3 nodes)
   pub strict : Runs (statements (print 1 (operation 1 Same (number 1 1) (text 1 "1") ∷ operation 1 Same
@@ -66,19 +67,31 @@ pub record ScalarRows : Type 0 where
       (object 1 (entry "a" (number 1 1) ∷ entry "b" (number 1 2) ∷ []))
       (object 1 (entry "b" (number 1 2) ∷ entry "a" (number 1 1) ∷ [])) ∷ operation 1 NotSame (number 1 1)
       (text 1 "1") ∷ []) ∷ [])) 100 (codes "false" ∷ codes "true" ∷ codes "false" ∷ codes "true" ∷ []) Done 81
-  -- print 'a' < 'b', '10' < '9', '10' < 9, null < 1, 2 >= 2, 2 > 2;
+  -- print 'a' < 'b', '10' < '9', '10' < 9, null < 1, 2 >= 2, 2 > 2, 2 <= 2, 3 <= 2, 3 > 2, 1 >= 2;
   -- (two texts by their bytes, all else by numbers)
   pub order : Runs (statements (print 1 (operation 1 Less (text 1 "a") (text 1 "b") ∷ operation 1 Less
       (text 1 "10") (text 1 "9") ∷ operation 1 Less (text 1 "10") (number 1 9) ∷ operation 1 Less (null 1)
       (number 1 1) ∷ operation 1 GreaterOrEqual (number 1 2) (number 1 2) ∷ operation 1 Greater (number 1 2)
+      (number 1 2) ∷ operation 1 LessOrEqual (number 1 2) (number 1 2) ∷ operation 1 LessOrEqual (number 1 3)
+      (number 1 2) ∷ operation 1 Greater (number 1 3) (number 1 2) ∷ operation 1 GreaterOrEqual (number 1 1)
       (number 1 2) ∷ []) ∷ [])) 100 (codes "true" ∷ codes "true" ∷ codes "false" ∷ codes "true" ∷ codes "true"
-      ∷ codes "false" ∷ []) Done 81
+      ∷ codes "false" ∷ codes "true" ∷ codes "false" ∷ codes "true" ∷ codes "false" ∷ []) Done 69
   -- print [] < 1;
   pub no_order : Runs (statements (print 1 (operation 1 Less (list 1 []) (number 1 1) ∷ []) ∷ [])) 100 []
       (Fault NotNumber 1) 96
   -- print 1 + '1x';
   pub no_number : Runs (statements (print 1 (operation 1 Add (number 1 1) (text 1 "1x") ∷ []) ∷ [])) 100 []
       (Fault NotNumber 1) 96
+  -- print 1 % 0;
+  pub remainder_by_zero : Runs (statements
+      (print 1 (operation 1 Remainder (number 1 1) (number 1 0) ∷ []) ∷ [])) 100 [] (Fault ZeroDivisor 1) 96
+  -- print 'x' / 0;
+  pub number_before_zero : Runs (statements
+      (print 1 (operation 1 Divide (text 1 "x") (number 1 0) ∷ []) ∷ [])) 100 [] (Fault NotNumber 1) 96
+  -- print 1 .. true .. null .. [1];
+  pub joined_texts : Runs (statements (print 1
+      (join 1 (number 1 1 ∷ boolean 1 true ∷ null 1 ∷ list 1 (number 1 1 ∷ []) ∷ []) ∷ []) ∷ [])) 100
+      (codes "1true[1]" ∷ []) Done 93
   -- print '007' + true, null - '-3';
   pub number_of_text : Runs (statements (print 1
       (operation 1 Add (text 1 "007") (boolean 1 true) ∷ operation 1 Subtract (null 1) (text 1 "-3") ∷ []) ∷ []))

@@ -4,9 +4,10 @@ use Rattle.jx9_syntax.specs.declared.expression.Binary.TheVariants.{Less}
 use Rattle.jx9_syntax.specs.declared.expression.Change.TheVariants.{Join}
 use Rattle.jx9_syntax.specs.declared.expression.Step.TheVariants.{IncrementAfter}
 use Rattle.jx9_syntax.specs.declared.parts.Part.TheVariants as part
-use Rattle.jx9_meaning.specs.Building.{block, change, do_expr, entry, join, list, mixed, number, object, operation, place, print, set, step, text, var, while}
-use Rattle.jx9_meaning.specs.Meaning.{Done, Spent}
+use Rattle.jx9_meaning.specs.Building.{block, change, do_expr, entry, join, list, member, mixed, number, object, operation, place, place_at, print, set, step, text, var, while}
+use Rattle.jx9_meaning.specs.Meaning.{Done, Fault, Spent}
 use Rattle.jx9_meaning.specs.Runs.{statements, Runs}
+use Rattle.jx9_meaning.specs.declared.fault.FaultKind.TheVariants.{NotContainer}
 
 pub record UnitRows : Type 0 where
   -- $x = 5; print "a$x";
@@ -27,6 +28,14 @@ pub record UnitRows : Type 0 where
       (step 1 IncrementAfter (place "i")) ∷ [])) ∷ set 1 "t" (mixed 1 (part.Var (codes "s") ∷ [])) ∷ do_expr 1
       (change 1 (place "s") Join (text 1 "")) ∷ do_expr 1 (list 1 (var 1 "s" ∷ [])) ∷ set 1 "u" (var 1 "s")
       ∷ set 1 "o" (object 1 (entry "m" (var 1 "s") ∷ [])) ∷ [])) 200 [] Done 125
+  -- $s = 'abcdefghijklmnop'; $i = 0; while ($i < 4) { $s = $s .. $s; $i++; } $a = 1; $a.b ..= $s;
+  -- (55, 3, 3: no unit is left for the size of the join)
+  pub faults_before_units : Runs (statements
+      (set 1 "s" (text 1 "abcdefghijklmnop") ∷ set 1 "i" (number 1 0) ∷ while 1
+      (operation 1 Less (var 1 "i") (number 1 4))
+      (block 1 (set 1 "s" (join 1 (var 1 "s" ∷ var 1 "s" ∷ [])) ∷ do_expr 1
+      (step 1 IncrementAfter (place "i")) ∷ [])) ∷ set 1 "a" (number 1 1) ∷ do_expr 1
+      (change 1 (place_at "a" (member "b" ∷ [])) Join (var 1 "s")) ∷ [])) 61 [] (Fault NotContainer 1) 0
   -- $s = 'abcdefghijklmnop'; $i = 0; while ($i < 5) { $s = $s .. $s; $i++; }
   -- (61 before the text of 515 bytes, which takes 2)
   pub fewer_left_than_taken : Runs (statements
