@@ -1,74 +1,16 @@
--- The laws of the layout.
-use Rattle.std.proofs.Common.{◌≡◌, ℕ, ◌+◌, ◌*◌, true, cond, List, [], ◌∷◌, ◌++◌, length, Option, Some, None, refl, sym, ap, subst, ◌∙◌, arith, append_assoc, length-append}
-use Rattle.std.specs.Prelude.{sum_by, slice_set}
+-- The sums of a map.
+use Rattle.std.proofs.Common.{◌≡◌, ℕ, ◌+◌, ◌*◌, true, cond, List, [], ◌∷◌, length, Option, Some, None, refl, sym, ap, ◌∙◌, arith}
+use Rattle.std.specs.Prelude.{sum_by}
 use Rattle.std.specs.Ordering.{nat_cmp, is_eq}
 use Rattle.std.specs.Cmp.Lexicographic.{slice_cmp, nat_list_cmp_total}
-use Rattle.std.specs.FinMap.{get, insert, len, entries, from_entries, entries_sorted, get-entries, entries-insert, len-entries}
+use Rattle.std.specs.FinMap.{get, insert, len, entries, entries_sorted, get-entries, entries-insert, len-entries}
 use Rattle.std.specs.FinMap.Entries.{put, find, by_order, is_sorted}
 use Rattle.std.specs.declared.cmp.Ordering.TheVariants.{Less, Equal, Greater}
-use Rattle.std.proofs.lemmas.List.{length-set, get_or-set_other}
 use Rattle.std.proofs.lemmas.List.Sums.{sum_by-cons}
-use Rattle.std.proofs.lemmas.Option.{slice_get-get_or}
-use Rattle.uq_page.specs.declared.header.Header.{Header}
-use Rattle.uq_page.specs.Laws.{OneBucketHead, OneCell}
-use Rattle.uq_hash.specs.Map.{Map, Entry, bytes_in, cell, cell_len, cells_len, entry_len}
-use Rattle.uq_hash.specs.Slot.{entry_of}
-use Rattle.uq_hash.proofs.EntryLemmas.{cells_of-append, entry_at, head_is, length-cells_of-cons}
+use Rattle.uq_page.specs.declared.layout.TheConstants.{CELL_HEAD}
+use Rattle.uq_hash.specs.Laws.{entry_of}
+use Rattle.uq_hash.specs.Map.{Map, Entry, bytes_in, cell_len, cells_len, entry_len}
 use Rattle.uq_hash.proofs.WalkLemmas.{bytes_same, find_behind, sorted_rest, true_is}
-use Rattle.uq_hash.specs.OnePage.{IsEntryAt, IsOnePage, cells_of, head_of}
-use Rattle.uq_hash.specs.WalkOrder.{hash_start}
-use Rattle.uq_hash.proofs.HeldLemmas.{Opened, some_same}
-use Rattle.uq_page.specs.declared.layout.TheConstants.{CELL_HEAD, CELLS_AT}
-
--- behind as many bytes of cells as many cells of a page are the same
-same_behind : OneCell → (start : ℕ) (page : List ℕ) (done rest done' rest' : List Entry) → IsOnePage start page (done ++ rest) → IsOnePage start page (done' ++ rest')
-    → length (cells_of done) ≡ length (cells_of done') → length rest ≡ length rest' → rest ≡ rest'
-same_behind one start page done [] done' [] is is' long count = refl
-same_behind one start page done [] done' (f ∷ rest') is is' long count = absurd (omega arith)
-same_behind one start page done (e ∷ rest) done' [] is is' long count = absurd (omega arith)
-same_behind one start page done (e ∷ rest) done' (f ∷ rest') is is' long count =
-    let here : IsEntryAt page (CELLS_AT + length (cells_of done)) e.0 e.1 = entry_at start page done e rest is in
-    let there : IsEntryAt page (CELLS_AT + length (cells_of done)) f.0 f.1 =
-    subst (λ n. IsEntryAt page (CELLS_AT + n) f.0 f.1) (sym long) (entry_at start page done' f rest' is') in
-    let same = one page (CELLS_AT + length (cells_of done)) e.0 (length e.1) e.1 f.0 (length f.1) f.1 here there in
-    let size = cells_more done e in
-    let size' = cells_more done' f in
-    let key = ap length same.0 in
-    let value = same.1 in
-    let behind = same_behind one start page (done ++ e ∷ []) rest (done' ++ f ∷ []) rest'
-    (subst (IsOnePage start page) (sym (append_assoc done (e ∷ []) rest)) is) (subst (IsOnePage start page) (sym (append_assoc done' (f ∷ []) rest')) is')
-    (omega arith) (omega arith) in
-    λ i. (same.0 i, same.2 i) ∷ behind i
-  where
-    cells_more : (done : List Entry) (e : Entry) → length (cells_of (done ++ e ∷ [])) ≡ length (cells_of done) + (CELL_HEAD + length e.0 + length e.1)
-    cells_more done e =
-        ap length (cells_of-append done (e ∷ [])) ∙ length-append (cells_of done) (cells_of (e ∷ [])) ∙ ap (λ n. length (cells_of done) + n) (length-cells_of-cons e [])
-        ∙ (omega arith)
-
-pub one_held : OneBucketHead → OneCell → (pages : List (List ℕ)) (header : Header) (m n : Map) → Opened pages header m → Opened pages header n → m ≡ n
-one_held head cell pages header m n first second =
-    let start = hash_start header in
-    let page : first.page ≡ second.page = some_same (sym first.first ∙ second.first) in
-    let other : IsOnePage start first.page second.cells = subst (λ (bytes : List ℕ). IsOnePage start bytes second.cells) (sym page) second.bucket in
-    let heads = head first.page (head_of first.cells) (head_of second.cells) (head_is start first.page first.cells first.bucket) (head_is start first.page second.cells other) in
-    let cells = same_behind cell start first.page [] first.cells [] second.cells first.bucket other refl (ap (λ h. h.cells) heads) in
-    first.same ∙ ap (λ xs. from_entries xs) cells ∙ sym second.same
-
-pub apart : (pages : List (List ℕ)) (header : Header) (m : Map) (page : List ℕ) → Opened pages header m → Opened (slice_set pages 0 page) header m
-apart pages header m page held =
-    let long = length-set pages 0 page in
-    let used = held.used in
-    let root = held.fields.root in
-    record {
-      fields = record { version = held.fields.version; count = held.fields.count ∙ sym long; buckets = held.fields.buckets; free = held.fields.free; root = root; keys = held.fields.keys; bytes = held.fields.bytes };
-      used = long ∙ used;
-      page = held.page;
-      first = slice_get-get_or (slice_set pages 0 page) header.root [] (omega arith) ∙ ap Some (get_or-set_other pages 0 header.root page [] (omega arith))
-          ∙ sym (slice_get-get_or pages header.root [] (omega arith)) ∙ held.first;
-      cells = held.cells;
-      bucket = held.bucket;
-      same = held.same;
-    }
 
 sum_by-parts : (xs : List Entry) → sum_by cell_len xs ≡ CELL_HEAD * length xs + sum_by entry_len xs
 sum_by-parts [] = refl

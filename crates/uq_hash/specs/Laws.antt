@@ -1,10 +1,14 @@
 -- What follows from the layout alone.
-use Rattle.std.specs.Prelude.{◌≡◌, ℕ, ◌+◌, ◌*◌, List, length, sum_by, slice_set}
+use Rattle.std.specs.Prelude.{◌≡◌, ℕ, ◌+◌, ◌*◌, List, [], ◌∷◌, length, sum_by, slice_set, Option, None, Some}
 use Rattle.std.specs.FinMap.{get, insert, len}
 use Rattle.uq_page.specs.declared.header.Header.{Header}
 use Rattle.uq_page.specs.declared.layout.TheConstants.{CELL_HEAD}
-use Rattle.uq_hash.specs.Map.{Map, HoldsMap, bytes_in, cells_len, entry_len}
-use Rattle.uq_hash.specs.Slot.{entry_of}
+use Rattle.uq_hash.specs.Map.{Entry, Map, HoldsMap, bytes_in, cells_len, entry_len}
+
+-- the entry of a key, where it has a value
+abbrev pub entry_of : List ℕ → Option (List ℕ) → List Entry
+entry_of key None = []
+entry_of key (Some value) = (key, value) ∷ []
 
 -- pages and a header hold one map at most
 abbrev pub OneMap : Type 0
