@@ -2,6 +2,7 @@ mod Databases
 mod Faults
 mod Openings
 mod Putting
+mod Refused
 mod Sessions
 mod Stops
 mod Sums

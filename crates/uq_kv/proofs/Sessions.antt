@@ -1,17 +1,16 @@
 -- Sessions at the end of a transaction.
-use Rattle.std.proofs.Common.{◌≡◌, ℕ, ◌≤◌, Bool, true, false, List, [], ◌∷◌, length, Option, Some, None, Vec, Global, Ok, Err, cond, refl, sym, ap, ◌∙◌, arith}
+use Rattle.std.proofs.Common.{◌≡◌, ℕ, Bool, true, false, List, Option, Some, None, Vec, Global, Ok, Err, refl, sym, ap, ◌∙◌}
 use Rattle.std.specs.Prelude.{Result, if◌then◌else◌}
 use Rattle.std.specs.Option.{option_map}
 use Rattle.std.specs.FinMap.{get, insert}
-use Rattle.std.proofs.lemmas.Bool.{le-ltb}
-use Rattle.uq_model.specs.Session.{Session, committed, opened, rolled_back, with_present}
+use Rattle.uq_model.specs.Session.{Call, Session, committed, opened, rolled_back, with_present}
 use Rattle.uq_model.specs.declared.limits.Limits.{Limits}
 use Rattle.uq_kv.specs.declared.error.KvFault.{KvFault}
 use Rattle.uq_kv.specs.declared.error.KvFault.TheVariants.{Full, NotFound}
-use Rattle.uq_kv.specs.declared.limits.TheConstants.{MOST_KEY}
 use Rattle.uq_kv.specs.declared.space.Space.{Space}
-use Rattle.uq_kv.specs.Calls.{fetches, found, stores}
+use Rattle.uq_kv.specs.Calls.{behind, fetches, found, puts, stores}
 use Rattle.uq_kv.specs.Full.{is_too_much}
+use Rattle.uq_kv.specs.Lengths.{entry_checked, key_checked}
 use Rattle.uq_kv.specs.Stored.{Stored, stored_key}
 
 module _ {S : Type 0} (s : Session S) (idle : s.begun ≡ false → s.present ≡ s.saved) where
@@ -31,35 +30,30 @@ module _ {S : Type 0} (s : Session S) (idle : s.begun ≡ false → s.present �
   pub committed_is : committed s ≡ opened s.present
   committed_is = done_by s.begun refl
 
--- ---- calls on a key that has a byte
-module _ (space : Space) (s : Session Stored) where
-  pub fetches_is : (key : List ℕ) → 1 ≤ length key → length key ≤ MOST_KEY → fetches space key s ≡ (found (get s.present (stored_key space key)), s)
-  fetches_is [] some short = absurd (omega arith)
-  fetches_is (byte ∷ bytes) some short =
-      ap (λ b. (found (cond b None (get s.present (stored_key space (byte ∷ bytes)))), s)) (le-ltb MOST_KEY (length (byte ∷ bytes)) short)
+-- ---- calls whose lengths are checked first
 
-  pub found_some : (key : List ℕ) (got : Option (Vec ℕ Global)) (data_found : Vec ℕ Global) → 1 ≤ length key → length key ≤ MOST_KEY → got ≡ Some data_found
-      → option_map (λ (v : Vec ℕ Global). v.items) got ≡ get s.present (stored_key space key) → (Ok data_found.items ≡ (fetches space key s).0) × ((fetches space key s).1 ≡ s)
-  found_some key got data_found some short is same =
-      let whole = fetches_is key some short in
-      let there : Some data_found.items ≡ get s.present (stored_key space key) = ap (option_map (λ (v : Vec ℕ Global). v.items)) (sym is) ∙ same in
-      (ap found there ∙ ap (λ (a : Result (List ℕ) KvFault × Session Stored). a.0) (sym whole), ap (λ (a : Result (List ℕ) KvFault × Session Stored). a.1) whole)
+pub passed : {T : Type 0} (checked : Result (Unit {0}) KvFault) (call : Call Stored (Result T KvFault)) (s : Session Stored) → checked ≡ Ok tt → behind checked call s ≡ call s
+passed checked call s is = ap (λ (r : Result (Unit {0}) KvFault). behind r call s) is
 
-  pub found_none : (key : List ℕ) (got : Option (Vec ℕ Global)) → 1 ≤ length key → length key ≤ MOST_KEY → got ≡ None
-      → option_map (λ (v : Vec ℕ Global). v.items) got ≡ get s.present (stored_key space key) → (Err NotFound ≡ (fetches space key s).0) × ((fetches space key s).1 ≡ s)
-  found_none key got some short is same =
-      let whole = fetches_is key some short in
-      let none : None ≡ get s.present (stored_key space key) = ap (option_map (λ (v : Vec ℕ Global). v.items)) (sym is) ∙ same in
-      (ap found none ∙ ap (λ (a : Result (List ℕ) KvFault × Session Stored). a.0) (sym whole), ap (λ (a : Result (List ℕ) KvFault × Session Stored). a.1) whole)
+module _ (space : Space) (s : Session Stored) (key : List ℕ) where
+  module _ (checked : key_checked key ≡ Ok tt) (got : Option (Vec ℕ Global)) (same : option_map (λ (v : Vec ℕ Global). v.items) got ≡ get s.present (stored_key space key)) where
+    whole_fetch : (answer : Option (List ℕ)) → answer ≡ get s.present (stored_key space key) → fetches space key s ≡ (found answer, s)
+    whole_fetch answer is = passed (key_checked key) (λ (t : Session Stored). (found (get t.present (stored_key space key)), t)) s checked ∙ ap (λ (o : Option (List ℕ)). (found o, s)) (sym is)
 
-  module _ (limits : Limits) (value : List ℕ) where
-    pub stores_done : (key : List ℕ) → 1 ≤ length key → is_too_much limits space key value s.present ≡ false
-        → stores limits space key value s ≡ (Ok tt, with_present (insert s.present (stored_key space key) value) s)
-    stores_done [] some fits = absurd (omega arith)
-    stores_done (byte ∷ bytes) some fits =
-        ap (λ b. cond b (Err Full, s) (Ok tt, with_present (insert s.present (stored_key space (byte ∷ bytes)) value) s)) fits
+    pub found_some : (data_found : Vec ℕ Global) → got ≡ Some data_found → (Ok data_found.items, s) ≡ fetches space key s
+    found_some data_found is = sym (whole_fetch (Some data_found.items) (ap (option_map (λ (v : Vec ℕ Global). v.items)) (sym is) ∙ same))
 
-    pub stores_full : (key : List ℕ) → 1 ≤ length key → is_too_much limits space key value s.present ≡ true → stores limits space key value s ≡ (Err Full, s)
-    stores_full [] some full = absurd (omega arith)
-    stores_full (byte ∷ bytes) some full =
-        ap (λ b. cond b (Err Full, s) (Ok tt, with_present (insert s.present (stored_key space (byte ∷ bytes)) value) s)) full
+    pub found_none : got ≡ None → (Err NotFound, s) ≡ fetches space key s
+    found_none is = sym (whole_fetch None (ap (option_map (λ (v : Vec ℕ Global). v.items)) (sym is) ∙ same))
+
+  module _ (limits : Limits) (value : List ℕ) (checked : entry_checked key value ≡ Ok tt) where
+    put_by : (too_much : Bool) → is_too_much limits space key value s.present ≡ too_much
+        → stores limits space key value s ≡ (if too_much then (Err Full, s) else (Ok tt, with_present (insert s.present (stored_key space key) value) s))
+    put_by too_much is = passed (entry_checked key value) (puts limits space key value) s checked
+        ∙ ap (λ (b : Bool). if b then (Err Full, s) else (Ok tt, with_present (insert s.present (stored_key space key) value) s)) is
+
+    pub stores_done : is_too_much limits space key value s.present ≡ false → stores limits space key value s ≡ (Ok tt, with_present (insert s.present (stored_key space key) value) s)
+    stores_done fits = put_by false fits
+
+    pub stores_full : is_too_much limits space key value s.present ≡ true → stores limits space key value s ≡ (Err Full, s)
+    stores_full full = put_by true full

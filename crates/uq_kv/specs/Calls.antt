@@ -1,5 +1,5 @@
 -- What each call answers over a session, and what it leaves of the session.
-use Rattle.std.specs.Prelude.{◌≡◌, ◌⊎◌, ℕ, Bool, true, false, not, nat_lt, if◌then◌else◌, List, [], ◌∷◌, length, Option, Some, None, Result, Ok, Err, IfErr}
+use Rattle.std.specs.Prelude.{◌≡◌, ◌⊎◌, ℕ, Bool, true, false, not, if◌then◌else◌, List, [], ◌∷◌, Option, Some, None, Result, Ok, Err, IfErr}
 use Rattle.std.specs.FinMap.{get, insert}
 use Rattle.uq_page.specs.declared.error.ChainFault.{ChainFault}
 use Rattle.uq_page.specs.declared.error.ChainFault.TheVariants as chain
@@ -9,32 +9,35 @@ use Rattle.uq_model.specs.declared.cause.Cause.TheVariants as cause
 use Rattle.uq_model.specs.declared.limits.Limits.{Limits}
 use Rattle.uq_kv.specs.declared.error.KvFault.{KvFault}
 use Rattle.uq_kv.specs.declared.error.KvFault.TheVariants.{EmptyKey, KeyTooLong, ValueTooLong, Full, NotFound, NoEntry, Disk, Corrupt, Closed, Memory}
-use Rattle.uq_kv.specs.declared.limits.TheConstants.{MOST_KEY}
 use Rattle.uq_kv.specs.declared.space.Space.{Space}
 use Rattle.uq_kv.specs.Full.{is_too_much}
+use Rattle.uq_kv.specs.Lengths.{entry_checked, key_checked}
 use Rattle.uq_kv.specs.Stored.{Stored, stored_key}
 
 -- ---- each call, as a function of the session
 
--- `EmptyKey`, then `Full`; else the entry is there, and a transaction is begun
+-- a call whose lengths are checked first
+abbrev pub behind : {T : Type 0} → Result (Unit {0}) KvFault → Call Stored (Result T KvFault) → Call Stored (Result T KvFault)
+behind (Err fault) call s = (Err fault, s)
+behind (Ok done) call s = call s
+
+-- `Full`; else the entry is there, and a transaction is begun
+abbrev pub puts : Limits → Space → List ℕ → List ℕ → Call Stored (Result (Unit {0}) KvFault)
+puts limits space key value s =
+    if is_too_much limits space key value s.present then (Err Full, s)
+    else (Ok tt, with_present (insert s.present (stored_key space key) value) s)
+
+-- `EmptyKey`, `KeyTooLong`, `ValueTooLong`, `Full`
 abbrev pub stores : Limits → Space → List ℕ → List ℕ → Call Stored (Result (Unit {0}) KvFault)
-stores limits space [] value s = (Err EmptyKey, s)
-stores limits space (byte ∷ bytes) value s =
-    if is_too_much limits space (byte ∷ bytes) value s.present then (Err Full, s)
-    else (Ok tt, with_present (insert s.present (stored_key space (byte ∷ bytes)) value) s)
+stores limits space key value = behind (entry_checked key value) (puts limits space key value)
 
 abbrev pub found : Option (List ℕ) → Result (List ℕ) KvFault
 found None = Err NotFound
 found (Some data_found) = Ok data_found
 
--- the data of a key; no key is longer than the longest
-abbrev pub data_at : Space → List ℕ → Stored → Option (List ℕ)
-data_at space key stored = if nat_lt MOST_KEY (length key) then None else get stored (stored_key space key)
-
--- `EmptyKey`, then `NotFound`
+-- `EmptyKey`, `KeyTooLong`, `NotFound`; else the data
 abbrev pub fetches : Space → List ℕ → Call Stored (Result (List ℕ) KvFault)
-fetches space [] s = (Err EmptyKey, s)
-fetches space (byte ∷ bytes) s = (found (data_at space (byte ∷ bytes) s.present), s)
+fetches space key = behind (key_checked key) (λ s. (found (get s.present (stored_key space key)), s))
 
 -- a call that has no refusal
 abbrev pub succeeds : {T : Type 0} → Call Stored T → Call Stored (Result T KvFault)
@@ -64,6 +67,10 @@ is_answered (Err fault) = not (is_stop fault)
 abbrev pub seen_by : {T U : Type 0} → (T → U) → Result T KvFault → Result U KvFault
 seen_by view (Ok value) = Ok (view value)
 seen_by view (Err fault) = Err fault
+
+-- the faults of what lies below
+abbrev pub stops : List KvFault
+stops = Disk ∷ Corrupt ∷ Memory ∷ []
 
 -- the fault is among these, or that of a closed store
 abbrev pub IsAmong : List KvFault → KvFault → Type 0

@@ -5,6 +5,7 @@ pub mod Full
 pub mod Holds
 pub mod Kv
 pub mod KvLaws
+pub mod Lengths
 pub mod Opening
 pub mod Stored
 pub mod Writing

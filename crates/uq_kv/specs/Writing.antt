@@ -1,5 +1,5 @@
 -- What a call on the pages does to what is stored in them.
-use Rattle.std.specs.Prelude.{◌≡◌, ℕ, ◌+◌, ◌*◌, Bool, true, false, ◌||◌, nat_lt, List, length, Option, Some, Result}
+use Rattle.std.specs.Prelude.{◌≡◌, ℕ, Bool, true, false, List, length, Option, Some, Result}
 use Rattle.std.specs.Option.{option_map}
 use Rattle.std.specs.FinMap.{get, insert, len}
 use Rattle.uq_facts.specs.Causes.{AtErr}
@@ -7,16 +7,15 @@ use Rattle.uq_page.specs.Pages.{HasPagesCause}
 use Rattle.uq_page.specs.declared.error.ChainFault.{ChainFault}
 use Rattle.uq_page.specs.declared.error.ChainFault.TheVariants.{Failed, Corrupt, NoPage}
 use Rattle.uq_page.specs.declared.header.Header.{Header}
-use Rattle.uq_page.specs.declared.layout.TheConstants.{CELL_HEAD, CELLS_ROOM}
 use Rattle.uq_hash.specs.Map.{HoldsMap, bytes_in}
-use Rattle.uq_model.specs.Full.{Sums, is_full}
+use Rattle.uq_model.specs.Full.{Sums}
 use Rattle.uq_model.specs.declared.limits.Limits.{Limits}
 use Rattle.uq_kv.specs.declared.space.Space.{Space}
 use Rattle.uq_kv.specs.declared.writing.Before.{Before}
 use Rattle.uq_kv.specs.declared.writing.Put.{Put}
 use Rattle.uq_kv.specs.declared.writing.Put.TheVariants.{Done, Full}
 use Rattle.uq_kv.specs.declared.writing.Totals.{Totals}
-use Rattle.uq_kv.specs.Database.{IsDatabase, IsKept, WhereStored}
+use Rattle.uq_kv.specs.Database.{IsDatabase, WhereStored}
 use Rattle.uq_kv.specs.Full.{is_too_much}
 use Rattle.uq_kv.specs.Stored.{Stored, stored_key}
 
@@ -30,11 +29,6 @@ pub record HasStoreCause {T : Type 0} (told : Option (List (List ℕ))) (header 
 -- the totals as a definition has them
 abbrev pub sums_in : Totals → Sums
 sums_in totals = record { entries = totals.entries; bytes = totals.bytes }
-
--- the cells of a map with these totals have no room in one page, or it is more than before and more than its limits
-abbrev pub is_over_all : Limits → Totals → Totals → Bool
-is_over_all limits before after =
-    nat_lt CELLS_ROOM (CELL_HEAD * after.entries + after.bytes) || is_full limits (sums_in before) (sums_in after)
 
 -- what there is before a write of this stored key
 pub record IsBefore (stored : Stored) (key : List ℕ) (before : Before) : Type 0 where
@@ -52,12 +46,6 @@ pub record HoldsNow (told : Option (List (List ℕ))) (header : Header) (stored 
   pub pages : List (List ℕ)
   pub is_told : told ≡ Some pages
   pub map : HoldsMap pages header stored
-
--- the pages keep this
-pub record AreKept (told : Option (List (List ℕ))) (header : Header) (stored : Stored) : Type 0 where
-  pub pages : List (List ℕ)
-  pub is_told : told ≡ Some pages
-  pub kept : IsKept header stored pages
 
 -- the pages are a database of this
 pub record AreDatabase (told : Option (List (List ℕ))) (header : Header) (stored : Stored) : Type 0 where

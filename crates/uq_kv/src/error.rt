@@ -20,11 +20,11 @@ pub enum KvFault {
     #[error("key too long")]
     KeyTooLong,
 
-    /// The data would have more bytes than data may have.
+    /// The data have more than 2^24 bytes.
     #[error("value too long")]
     ValueTooLong,
 
-    /// The write makes entries or bytes greater than before and greater than their limit, or has no room.
+    /// The write makes entries or bytes greater than before and greater than their limit.
     #[error("full")]
     Full,
 

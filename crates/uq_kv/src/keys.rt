@@ -1,22 +1,22 @@
 //! Keys are stored and fetched.
 use crate::closing::close_by;
+use crate::limits::{check_key, check_value};
 use crate::writing::{Put, look_up, write};
-use crate::{Kv, KvFault, MOST_KEY, Space};
+use crate::{Kv, KvFault, Space};
 use std::alloc::Global;
 use uq_outside::Disk;
-use uq_page::MOST_INLINE;
 
 impl<'d, D: Disk> Kv<'d, D> {
-    ghost use Rattle.std.specs.Prelude.{◌≡◌, ◌↔◌, [], ◌∷◌, None, true, Err, OnOk};
+    ghost use Rattle.std.specs.Prelude.{◌≡◌, ◌∷◌, None, true, OnOk};
     ghost use Rattle.uq_pager.specs.Keeps.{KeepsDisk};
-    ghost use Rattle.uq_kv.specs.Calls.{FailsBy, fetches, stores};
+    ghost use Rattle.uq_kv.specs.Calls.{FailsBy, fetches, stops, stores};
+    ghost use Rattle.uq_kv.specs.Lengths.{RefusesLengths, entry_checked, key_checked};
     ghost use Rattle.uq_kv.specs.Kv.{Does, HasCauses, KeepsKv, LeavesSaved, Reads, closed_of, disk_of, is_begun_of, limits_of};
 
     /// Stores data under a key, in place of what was there, and begins a transaction where none is begun.
     ///
-    /// Refusals, in this order: `EmptyKey`; `Full`, where the key is longer than 1,024 bytes or the data than 255, where
-    /// the entries that there are then have no room in one page, or where the write makes entries or bytes greater than
-    /// before and greater than their limit.
+    /// Refusals, in this order: `EmptyKey`; `KeyTooLong`, above 1,024 bytes; `ValueTooLong`, above 2^24 bytes; `Full`,
+    /// where the write makes entries or bytes greater than before and greater than their limit.
     pub fn store(
         &mut self,
         alloc: Global,
@@ -25,8 +25,8 @@ impl<'d, D: Disk> Kv<'d, D> {
         value: &[u8],
     ) -> Result<(), KvFault>
         ensures does { Does D.Disk (λ done. done) (stores (limits_of D.Disk self.old) space key.now value.now) self.old self.new result }
-        ensures empty { closed_of D.Disk self.old ≡ None → (result ≡ Err KvFault.EmptyKey) ↔ (key.now ≡ []) }
-        ensures faults { FailsBy (KvFault.EmptyKey ∷ KvFault.Full ∷ KvFault.Disk ∷ KvFault.Corrupt ∷ KvFault.Memory ∷ []) result }
+        ensures lengths { closed_of D.Disk self.old ≡ None → RefusesLengths (entry_checked key.now value.now) result }
+        ensures faults { FailsBy (KvFault.EmptyKey ∷ KvFault.KeyTooLong ∷ KvFault.ValueTooLong ∷ KvFault.Full ∷ stops) result }
         ensures begun { OnOk result (is_begun_of D.Disk self.new ≡ true) }
         // Told or not, a stop within leaves files that recover to what a stop before could leave.
         ensures kept { KeepsDisk D.Disk (disk_of D.Disk self.old) (disk_of D.Disk self.new) }
@@ -35,12 +35,8 @@ impl<'d, D: Disk> Kv<'d, D> {
         ensures cause { HasCauses D.Disk self.old self.new result }
     {
         self.check_open()?;
-        if key.is_empty() {
-            return Err(KvFault::EmptyKey);
-        }
-        if key.len() > MOST_KEY || value.len() > MOST_INLINE {
-            return Err(KvFault::Full);
-        }
+        check_key(key)?;
+        check_value(value)?;
         match write(
             alloc,
             &mut self.pager,
@@ -61,23 +57,18 @@ impl<'d, D: Disk> Kv<'d, D> {
 
     /// The data of a key.
     ///
-    /// Refusals, in this order: `EmptyKey`, `NotFound`. No key of more than 1,024 bytes is there.
+    /// Refusals, in this order: `EmptyKey`; `KeyTooLong`, above 1,024 bytes; `NotFound`.
     pub fn fetch(&mut self, alloc: Global, space: Space, key: &[u8]) -> Result<Vec<u8>, KvFault>
         ensures does { Does D.Disk (λ data_found. data_found.items) (fetches space key.now) self.old self.new result }
-        ensures empty { closed_of D.Disk self.old ≡ None → (result ≡ Err KvFault.EmptyKey) ↔ (key.now ≡ []) }
-        ensures faults { FailsBy (KvFault.EmptyKey ∷ KvFault.NotFound ∷ KvFault.Disk ∷ KvFault.Corrupt ∷ KvFault.Memory ∷ []) result }
+        ensures lengths { closed_of D.Disk self.old ≡ None → RefusesLengths (key_checked key.now) result }
+        ensures faults { FailsBy (KvFault.EmptyKey ∷ KvFault.KeyTooLong ∷ KvFault.NotFound ∷ stops) result }
         ensures reads { Reads D.Disk self.old self.new }
         ensures stop { LeavesSaved D.Disk self.old self.new }
         ensures keeps { KeepsKv D.Disk self.old self.new }
         ensures cause { HasCauses D.Disk self.old self.new result }
     {
         self.check_open()?;
-        if key.is_empty() {
-            return Err(KvFault::EmptyKey);
-        }
-        if key.len() > MOST_KEY {
-            return Err(KvFault::NotFound);
-        }
+        check_key(key)?;
         match look_up(alloc, &mut self.pager, &self.header, space, key) {
             Ok(Some(found)) => Ok(found),
             Ok(None) => Err(KvFault::NotFound),

@@ -16,7 +16,7 @@ mod writing;
 
 pub use error::{KvFault, OpenFault};
 pub use kv::Kv;
-pub use limits::MOST_KEY;
+pub use limits::{MOST_KEY, MOST_VALUE};
 pub use opening::Ready;
 pub use recovering::recover;
 pub use space::Space;

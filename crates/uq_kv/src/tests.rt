@@ -125,46 +125,81 @@ fn a_rollback_leaves_an_empty_file_empty(rt: HostRuntime) -> Result<(), Fail> {
     Ok(())
 }
 
+/// So many letters.
+fn letters(alloc: Global, len: usize) -> Result<Vec<u8>, Fail> {
+    Ok(vec![in alloc; b'v'; len]?)
+}
+
 #[test]
 fn refusals_come_at_their_lengths(rt: HostRuntime) -> Result<(), Fail> {
     let mut disk = empty_disk(rt.alloc())?;
     let alloc = rt.alloc();
-    let mut kv = Kv::open(alloc, &mut disk, LIMITS)?;
+    let mut kv = Kv::open(alloc, &mut disk, limits(2, MOST_BYTES))?;
     let key = [b'k'; 1025];
-    let value = [b'v'; 256];
+    let short = [b'v'; 255];
+    let value = letters(alloc, 16_777_217)?;
+    // The earlier refusal comes first: where the key is wrong whatever the data are, and full last.
     assert!(rt; kv.store(alloc, Space::Keys, b"", &value) == Err(KvFault::EmptyKey));
-    assert!(rt; kv.store(alloc, Space::Keys, &key, b"") == Err(KvFault::Full));
-    assert!(rt; kv.store(alloc, Space::Keys, b"a", &value) == Err(KvFault::Full));
+    assert!(rt; kv.store(alloc, Space::Keys, &key, &value) == Err(KvFault::KeyTooLong));
+    assert!(rt; kv.store(alloc, Space::Keys, &key, b"") == Err(KvFault::KeyTooLong));
+    assert!(rt; kv.store(alloc, Space::Keys, b"a", &value) == Err(KvFault::ValueTooLong));
     assert!(rt; kv.commit() == Ok(false));
-    assert!(rt; kv.store(alloc, Space::Keys, &key[..1024], &value[..255]) == Ok(()));
+    assert!(rt; kv.store(alloc, Space::Keys, &key[..1024], &short) == Ok(()));
     assert!(rt; kv.store(alloc, Space::Keys, b"a", b"") == Ok(()));
-    assert!(rt; kv.fetch(alloc, Space::Keys, &key[..1024])?.as_slice() == &value[..255]);
+    assert!(rt; kv.store(alloc, Space::Keys, b"b", &value) == Err(KvFault::ValueTooLong));
+    assert!(rt; kv.store(alloc, Space::Keys, b"b", b"") == Err(KvFault::Full));
+    assert!(rt; kv.fetch(alloc, Space::Keys, &key[..1024])?.as_slice() == short.as_slice());
     assert!(rt; kv.fetch(alloc, Space::Keys, b"a")?.is_empty());
-    let not_found = kv.fetch(alloc, Space::Keys, &key).map(|_| ());
-    assert!(rt; not_found == Err(KvFault::NotFound));
+    let long = kv.fetch(alloc, Space::Keys, &key).map(|_| ());
+    assert!(rt; long == Err(KvFault::KeyTooLong));
     let empty = kv.fetch(alloc, Space::Keys, b"").map(|_| ());
     assert!(rt; empty == Err(KvFault::EmptyKey));
+    let absent = kv.fetch(alloc, Space::Keys, b"b").map(|_| ());
+    assert!(rt; absent == Err(KvFault::NotFound));
     Ok(())
 }
 
 #[test]
-fn three_of_the_longest_entries_have_room_and_a_fourth_has_not(
-    rt: HostRuntime,
-) -> Result<(), Fail> {
+fn data_stand_in_their_cell_or_in_a_chain_of_pages(rt: HostRuntime) -> Result<(), Fail> {
     let mut disk = empty_disk(rt.alloc())?;
     let alloc = rt.alloc();
     let mut kv = Kv::open(alloc, &mut disk, LIMITS)?;
-    let mut key = [b'k'; 1024];
-    for (first, answer) in [
-        (1, Ok(())),
-        (2, Ok(())),
-        (3, Ok(())),
-        (4, Err(KvFault::Full)),
-        (1, Ok(())),
-    ] {
-        key[0] = first;
+    for len in [255, 256, 16_777_216, 0, 4081] {
+        let value = letters(alloc, len)?;
         assert!(rt;
-            kv.store(alloc, Space::Keys, &key, &[first; 255]) == answer,
+            kv.store(alloc, Space::Keys, b"a", &value) == Ok(()),
+            "{len} bytes"
+        );
+        let found = kv.fetch(alloc, Space::Keys, b"a")?;
+        assert!(rt; found.as_slice() == value.as_slice(), "{len} bytes");
+    }
+    Ok(())
+}
+
+#[test]
+fn entries_of_many_pages_are_there_after_a_commit(rt: HostRuntime) -> Result<(), Fail> {
+    let mut disk = empty_disk(rt.alloc())?;
+    let alloc = rt.alloc();
+    let mut key = [b'k'; 1024];
+    let value = [b'v'; 300];
+    {
+        let mut kv = Kv::open(alloc, &mut disk, LIMITS)?;
+        for first in 0..20u8 {
+            key[0] = first;
+            let data = &value[..usize::from(first) * 15];
+            assert!(rt;
+                kv.store(alloc, Space::Keys, &key, data) == Ok(()),
+                "key {first}"
+            );
+        }
+        assert!(rt; kv.commit() == Ok(true));
+    }
+    let mut kv = Kv::open(alloc, &mut disk, LIMITS)?;
+    for first in 0..20u8 {
+        key[0] = first;
+        let found = kv.fetch(alloc, Space::Keys, &key)?;
+        assert!(rt;
+            found.as_slice() == &value[..usize::from(first) * 15],
             "key {first}"
         );
     }

@@ -5,19 +5,17 @@ ghost use Rattle.std.specs.FinMap.{get, insert};
 ghost use Rattle.uq_facts.specs.Causes.{UnlessErr};
 ghost use Rattle.uq_page.specs.Header.{IsInUse};
 ghost use Rattle.uq_page.specs.Pages.{HasPagesCause};
-ghost use Rattle.uq_hash.specs.Map.{WhereHeld, cells_len};
+ghost use Rattle.uq_model.specs.Full.{is_full};
 ghost use Rattle.uq_kv.specs.Database.{WhereKept, WhereStored};
 ghost use Rattle.uq_kv.specs.Stored.{IsWithinLimits, Stored, stored_key};
-ghost use Rattle.uq_kv.specs.Writing.{AreAfter, AreDatabase, AreKept, HasStoreCause, HoldsNow, IsBefore, Puts, is_over_all};
+ghost use Rattle.uq_kv.specs.Writing.{AreAfter, AreDatabase, HasStoreCause, HoldsNow, IsBefore, Puts, sums_in};
 
 use crate::space::stored_key;
-use crate::{MOST_KEY, Space};
+use crate::{MOST_KEY, MOST_VALUE, Space};
 use std::alloc::Global;
-use uq_hash::{apart_from_header, create, find, insert};
+use uq_hash::{apart_from_header, create, find, insert, sums_of_insert};
 use uq_model::{Limits, MOST_BYTES, MOST_ENTRIES};
-use uq_page::{
-    CELL_HEAD, CELLS_ROOM, ChainFault, Header, MOST_INLINE, Page, Pages, PagesFault, write_header,
-};
+use uq_page::{ChainFault, Header, Page, Pages, PagesFault, write_header};
 
 /// Whether an entry was put in.
 #[derive(Clone, Copy, Debug, PartialEq, Eq)]
@@ -36,7 +34,8 @@ pub(crate) fn look_up<P: Pages>(
     key: &[u8],
 ) -> Result<Option<Vec<u8>>, ChainFault>
     requires { P.is_sound p.old ≡ true }
-    ensures found { IfOk result (λ found. WhereStored (P.pages p.old) header.now (λ stored. option_map (λ value. value.items) found ≡ get stored (stored_key space key.now))) }
+    ensures found { IfOk result (λ found. WhereStored (P.pages p.old) header.now (λ stored.
+        option_map (λ value. value.items) found ≡ get stored (stored_key space key.now))) }
     ensures reads { P.only_reads p.old p.new }
     ensures same { UnlessErr ChainFault.Failed result (P.pages p.new ≡ P.pages p.old) }
     ensures cause { HasStoreCause (P.pages p.old) header.now (P.faults p.old) (P.faults p.new) (P.is_sound p.new) result }
@@ -109,12 +108,13 @@ fn examine<P: Pages>(
 // The totals after a write of a stored key and data of these lengths. `None` where the old ones are those of no store.
 fn totals_after(before: &Before, key_len: usize, value_len: usize) -> Option<Totals>
     requires key { key_len ≤ MOST_KEY + 1 }
-    requires value { value_len ≤ MOST_INLINE }
+    requires value { value_len ≤ MOST_VALUE }
     ensures low { IfSome result (λ after. (before.now.totals.entries ≤ MOST_ENTRIES) × (before.now.totals.bytes ≤ MOST_BYTES)) }
-    ensures small { IfSome result (λ after. (after.entries ≤ 2 ^ 32) × (after.bytes ≤ 2 ^ 32)) }
-    ensures after { (it : Stored) (key value : List ℕ) → key_len ≡ length key → value_len ≡ length value → IsBefore it key before.now → IfSome result (AreAfter it key value) }
+    ensures after { (it : Stored) (key value : List ℕ) → key_len ≡ length key → value_len ≡ length value → IsBefore it key before.now
+        → IfSome result (AreAfter it key value) }
     ensures some { (it : Stored) (key : List ℕ) → IsWithinLimits it → IsBefore it key before.now → IsSome result }
 {
+    sums_of_insert();
     let Totals { entries, bytes } = before.totals;
     if entries > MOST_ENTRIES || bytes > MOST_BYTES {
         return None;
@@ -131,15 +131,11 @@ fn totals_after(before: &Before, key_len: usize, value_len: usize) -> Option<Tot
     }
 }
 
-// Whether the cells lack room in one page, or the totals are more than before and more than their limits.
+// Whether the totals are more than before and more than their limits.
 fn is_over(limits: &Limits, before: &Totals, after: &Totals) -> bool
-    requires entries { after.now.entries ≤ 2 ^ 32 }
-    requires bytes { after.now.bytes ≤ 2 ^ 32 }
-    ensures { result ≡ is_over_all limits.now before.now after.now }
+    ensures { result ≡ is_full limits.now (sums_in before.now) (sums_in after.now) }
 {
-    let cells = CELL_HEAD as u64 * after.entries + after.bytes;
-    cells > CELLS_ROOM as u64
-        || (after.entries > before.entries && after.entries > limits.entries)
+    (after.entries > before.entries && after.entries > limits.entries)
         || (after.bytes > before.bytes && after.bytes > limits.bytes)
 }
 
@@ -154,7 +150,6 @@ fn with_pages<P: Pages>(p: &mut P, header: &Header) -> Result<Header, PagesFault
     ensures entries { IfOk result (λ new. new.entries ≤ 2 ^ 25) }
     ensures bytes { IfOk result (λ new. new.bytes ≤ 2 ^ 31) }
     ensures holds { IfOk result (λ new. WhereKept (P.pages p.old) header.now (HoldsNow (P.pages p.new) new)) }
-    ensures back { IfOk result (λ new. WhereHeld (P.pages p.new) new (AreKept (P.pages p.old) header.now)) }
     ensures told { UnlessErr PagesFault.Failed result (is_some (P.pages p.new) ≡ is_some (P.pages p.old)) }
     ensures keeps { P.keeps p.old p.new }
     ensures cause { HasPagesCause PagesFault.Failed (P.faults p.old) (P.faults p.new) (P.is_sound p.new) result }
@@ -166,7 +161,7 @@ fn with_pages<P: Pages>(p: &mut P, header: &Header) -> Result<Header, PagesFault
     }
 }
 
-// Puts an entry in that has room, and the header on its page.
+// Puts an entry in that is not too much, and the header on its page.
 fn put_entry<P: Pages>(
     alloc: Global,
     p: &mut P,
@@ -177,11 +172,11 @@ fn put_entry<P: Pages>(
     requires sound { P.is_sound p.old ≡ true }
     requires key { 1 ≤ length key.now }
     requires key_end { length key.now ≤ 3001 }
-    requires value { length value.now ≤ MOST_INLINE }
+    requires value { length value.now ≤ MOST_VALUE }
     requires in_use { IsInUse header.now }
     requires entries { 1 ≤ P.size p.old → header.now.entries ≤ 2 ^ 25 }
     requires bytes { 1 ≤ P.size p.old → header.now.bytes ≤ 2 ^ 31 }
-    requires room { WhereKept (P.pages p.old) header.now (λ stored. cells_len (insert stored key.now value.now) ≤ CELLS_ROOM) }
+    requires limits { WhereStored (P.pages p.old) header.now (λ stored. IsWithinLimits (insert stored key.now value.now)) }
     ensures in_use { IfOk result IsInUse }
     ensures put { IfOk result (λ new. WhereStored (P.pages p.old) header.now (λ stored. AreDatabase (P.pages p.new) new (insert stored key.now value.now))) }
     ensures keeps { P.keeps p.old p.new }
@@ -208,10 +203,13 @@ pub(crate) fn write<P: Pages>(
 ) -> Result<Put, ChainFault>
     requires sound { P.is_sound p.old ≡ true }
     requires key { length key.now ≤ MOST_KEY }
-    requires value { length value.now ≤ MOST_INLINE }
+    requires value { length value.now ≤ MOST_VALUE }
+    requires entries { limits.now.entries ≤ MOST_ENTRIES }
+    requires bytes { limits.now.bytes ≤ MOST_BYTES }
     requires in_use { IsInUse header.old }
     ensures in_use { IsInUse header.new }
-    ensures puts { IfOk result (λ put. WhereStored (P.pages p.old) header.old (λ stored. Puts limits.now space key.now value.now stored (P.pages p.new) header.new put)) }
+    ensures puts { IfOk result (λ put. WhereStored (P.pages p.old) header.old (λ stored.
+        Puts limits.now space key.now value.now stored (P.pages p.new) header.new put)) }
     ensures full { result ≡ Ok Put.Full → (P.only_reads p.old p.new) × (P.pages p.new ≡ P.pages p.old) × (header.new ≡ header.old) }
     ensures keeps { P.keeps p.old p.new }
     ensures cause { HasStoreCause (P.pages p.old) header.old (P.faults p.old) (P.faults p.new) (P.is_sound p.new) result }

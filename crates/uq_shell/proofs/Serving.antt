@@ -3,16 +3,17 @@ use Rattle.std.proofs.Common.{◌≡◌, ℕ, Bool, true, false, if◌then◌els
 use Rattle.uq_outside.specs.Files.{Files}
 use Rattle.uq_model.specs.Session.{Session, opened, with_present}
 use Rattle.uq_model.specs.declared.limits.Limits.{Limits}
-use Rattle.std.specs.FinMap.{insert}
-use Rattle.uq_kv.specs.Calls.{stores}
+use Rattle.std.specs.FinMap.{get, insert}
+use Rattle.uq_kv.specs.Calls.{behind, found, puts}
 use Rattle.uq_kv.specs.Full.{is_too_much}
+use Rattle.uq_kv.specs.Lengths.{entry_checked, key_checked}
 use Rattle.uq_kv.specs.Holds.{RecoversTo, RecoversToEither}
 use Rattle.uq_kv.specs.Stored.{Stored, stored_key}
 use Rattle.uq_kv.specs.declared.error.KvFault.{KvFault}
 use Rattle.uq_kv.specs.declared.error.KvFault.TheVariants.{Full}
 use Rattle.uq_kv.specs.declared.space.Space.TheVariants.{Keys}
 use Rattle.uq_shell.specs.Answers.{request_of}
-use Rattle.uq_shell.specs.Commands.{Request, events_of, fetches_key}
+use Rattle.uq_shell.specs.Commands.{Request, events_of}
 use Rattle.uq_shell.specs.Ends.{first_said}
 use Rattle.uq_shell.specs.Events.{Event, Out, Commit}
 use Rattle.uq_shell.specs.Line.{line_after}
@@ -23,22 +24,24 @@ use Rattle.uq_shell.specs.declared.command.Command.{Command}
 use Rattle.uq_shell.specs.declared.command.Command.TheVariants as command
 
 -- a store saves nothing by itself
-stored_saved : (limits : Limits) (key value : List ℕ) (entry : Stored) → (stores limits Keys key value (opened entry)).1.saved ≡ entry
-stored_saved limits [] value entry = refl
-stored_saved limits (byte ∷ bytes) value entry = by_room (is_too_much limits Keys (byte ∷ bytes) value entry)
-  where
-    by_room : (b : Bool) → (if◌then◌else◌ {A = Result (Unit {0}) KvFault × Session Stored} b (Err Full, opened entry) (Ok tt, with_present (insert entry (stored_key Keys (byte ∷ bytes)) value) (opened entry))).1.saved ≡ entry
-    by_room true = refl
-    by_room false = refl
+put_saved : (limits : Limits) (key value : List ℕ) (entry : Stored) (too_much : Bool)
+    → (if◌then◌else◌ {A = Result (Unit {0}) KvFault × Session Stored} too_much (Err Full, opened entry) (Ok tt, with_present (insert entry (stored_key Keys key) value) (opened entry))).1.saved ≡ entry
+put_saved limits key value entry true = refl
+put_saved limits key value entry false = refl
 
-fetched_saved : (limits : Limits) (key : List ℕ) (entry : Stored) → (fetches_key key limits (opened entry)).1.saved ≡ entry
-fetched_saved limits [] entry = refl
-fetched_saved limits (byte ∷ bytes) entry = refl
+stored_behind : (limits : Limits) (key value : List ℕ) (entry : Stored) (checked : Result (Unit {0}) KvFault) → (behind checked (puts limits Keys key value) (opened entry)).1.saved ≡ entry
+stored_behind limits key value entry (Err fault) = refl
+stored_behind limits key value entry (Ok done) = put_saved limits key value entry (is_too_much limits Keys key value entry)
+
+fetched_behind : (key : List ℕ) (entry : Stored) (checked : Result (Unit {0}) KvFault)
+    → (behind checked (λ (s : Session Stored). (found (get s.present (stored_key Keys key)), s)) (opened entry)).1.saved ≡ entry
+fetched_behind key entry (Err fault) = refl
+fetched_behind key entry (Ok done) = refl
 
 -- over what was just opened, no command saves anything
 pub saves_entry : (it : Command) (limits : Limits) (entry : Stored) → ((request_of it).does limits (opened entry)).1.saved ≡ entry
-saves_entry (command.Store key value) limits entry = stored_saved limits key.now value.now entry
-saves_entry (command.Fetch key) limits entry = fetched_saved limits key.now entry
+saves_entry (command.Store key value) limits entry = stored_behind limits key.now value.now entry (entry_checked key.now value.now)
+saves_entry (command.Fetch key) limits entry = fetched_behind key.now entry (key_checked key.now)
 saves_entry command.Begin limits entry = refl
 saves_entry command.Commit limits entry = refl
 saves_entry command.Rollback limits entry = refl

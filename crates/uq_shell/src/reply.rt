@@ -26,7 +26,7 @@ pub enum Refusal {
     EmptyKey,
     KeyTooLong,
     ValueTooLong,
-    /// There is no room for the entry.
+    /// The entry makes more keys or bytes than before, and more than there may be.
     Full,
     /// The key is not there.
     NotFound,

@@ -125,33 +125,35 @@ fn a_stored_key_is_fetched_as_a_json_string(rt: HostRuntime) -> Result<(), Fail>
 }
 
 #[test]
-fn three_great_entries_fill_the_page(rt: HostRuntime) -> Result<(), Fail> {
+fn keys_up_to_the_longest_are_stored_with_data_of_any_length(rt: HostRuntime) -> Result<(), Fail> {
     let mut disk = MemDisk::new(rt.alloc(), b"", b"", &[])?;
-    let data = "d".repeat(rt.alloc(), 255)?;
-    let long = "k".repeat(rt.alloc(), 1023)?;
-    for (last, want) in [("1", "ok\n"), ("2", "ok\n"), ("3", "ok\n"), ("4", "full\n")] {
-        let key = format!(in rt.alloc(); "{long}{last}")?;
+    let key = "k".repeat(rt.alloc(), 1024)?;
+    let data = "d".repeat(rt.alloc(), 70_000)?;
+    let too_long = "k".repeat(rt.alloc(), 1025)?;
+    let runs: [(&[&str], &[u8]); 4] = [
+        (&["t.db", "store", key.as_str(), data.as_str()], b"ok\n"),
+        (&["t.db", "store", "a", ""], b"ok\n"),
+        (
+            &["t.db", "store", too_long.as_str(), "1"],
+            b"key too long\n",
+        ),
+        (&["t.db", "fetch", too_long.as_str()], b"key too long\n"),
+    ];
+    for (words, bytes) in runs {
         let mut out = MemSink::new(rt.alloc(), &[])?;
-        obey(
-            rt.alloc(),
-            &["t.db", "store", key.as_str(), data.as_str()],
-            &mut disk,
-            &mut out,
-        )?;
-        assert_eq!(rt; out.written(), want.as_bytes());
+        obey(rt.alloc(), words, &mut disk, &mut out)?;
+        assert_eq!(rt; out.written(), bytes);
     }
-    for last in ["1", "2", "3"] {
-        let key = format!(in rt.alloc(); "{long}{last}")?;
-        let mut out = MemSink::new(rt.alloc(), &[])?;
-        let end = obey(
-            rt.alloc(),
-            &["t.db", "fetch", key.as_str()],
-            &mut disk,
-            &mut out,
-        )?;
-        assert_eq!(rt; end, ended(Status::Done, 1));
-        assert_eq!(rt; out.written().len(), 258);
-    }
+    let mut out = MemSink::new(rt.alloc(), &[])?;
+    let end = obey(
+        rt.alloc(),
+        &["t.db", "fetch", key.as_str()],
+        &mut disk,
+        &mut out,
+    )?;
+    assert_eq!(rt; end, ended(Status::Done, 1));
+    let quoted = format!(in rt.alloc(); "\"{data}\"\n")?;
+    assert_eq!(rt; out.written(), quoted.as_bytes());
     Ok(())
 }
 

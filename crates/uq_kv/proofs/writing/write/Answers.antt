@@ -4,7 +4,7 @@ use Rattle.std.proofs.lemmas.Result.{err_from_is_err_and}
 use Rattle.uq_kv.specs.Stored.{stored_key}
 use Rattle.uq_kv.specs.Writing.{AreDatabase, IsBefore}
 use Rattle.uq_kv.proofs.Databases.{cause_behind, handed_on, kept, no_some, within}
-use Rattle.uq_kv.proofs.Sums.{has_room, too_much_is}
+use Rattle.uq_kv.proofs.Sums.{full_is, still_within}
 use Rattle.uq_kv.proofs.writing.write.Goals as goal
 
 pub returns-in_err-before-clause-cause : goal.returns-in_err-before-clause-cause
@@ -35,16 +35,18 @@ returns-then-is_over-clause-puts g c = λ pages on stored database.
     let long : c.len.result ≡ length c.in-Ok.stored.items = search rules in
     let before = subst (λ k. IsBefore stored k c.in_ok-before.before) stored_as (c.in_ok-before.ensures.before pages on stored (kept c.args.header.now stored pages database)) in
     let after = c.in-Some.ensures.after stored (stored_key c.args.space c.args.key.now) c.args.value.now (long ∙ ap length c.in-Ok.ensures) refl before in
-    too_much_is c.args.limits.now c.args.space c.args.key.now c.args.value.now stored c.in_ok-before.before c.in-Some.after c.requires.key c.requires.value before after
+    full_is c.args.limits.now stored (stored_key c.args.space c.args.key.now) c.args.value.now c.in_ok-before.before c.in-Some.after before after
     ∙ sym c.is_over.ensures ∙ c.if-is_over.true
 
-pub put_entry-requires-clause-room : goal.put_entry-requires-clause-room
-put_entry-requires-clause-room g c = λ pages on stored keeps.
+pub put_entry-requires-clause-limits : goal.put_entry-requires-clause-limits
+put_entry-requires-clause-limits g c = λ pages on stored database.
     let same_key : c.deref.result.now ≡ c.deref-2.result.now = c.deref.ensures.value ∙ sym c.deref-2.ensures.value in
     let long : c.len.result ≡ length c.in-Ok.stored.items = search rules in
-    let before = subst (λ k. IsBefore stored k c.in_ok-before.before) same_key (c.in_ok-before.ensures.before pages (sym (c.in_ok-before.ensures.same (λ is. cc)) ∙ on) stored keeps) in
+    let was = sym (c.in_ok-before.ensures.same (λ is. cc)) ∙ on in
+    let before = subst (λ k. IsBefore stored k c.in_ok-before.before) same_key (c.in_ok-before.ensures.before pages was stored (kept c.args.header.now stored pages database)) in
     let after = c.in-Some.ensures.after stored c.deref-2.result.now c.args.value.now (long ∙ ap length (sym c.deref-2.ensures.value)) refl before in
-    has_room c.args.limits.now c.in_ok-before.before c.in-Some.after stored c.deref-2.result.now c.args.value.now (sym c.is_over.ensures ∙ c.if-is_over.false) after
+    still_within c.args.limits.now stored c.deref-2.result.now c.args.value.now c.requires.entries c.requires.bytes (within c.args.header.now stored pages database)
+    (full_is c.args.limits.now stored c.deref-2.result.now c.args.value.now c.in_ok-before.before c.in-Some.after before after ∙ sym c.is_over.ensures ∙ c.if-is_over.false)
 
 pub returns-in_err-header-clause-cause : goal.returns-in_err-header-clause-cause
 returns-in_err-header-clause-cause g c =
@@ -62,7 +64,7 @@ returns-clause-puts g c = λ pages on stored database.
     let long : c.len.result ≡ length c.in-Ok.stored.items = search rules in
     let before = subst (λ k. IsBefore stored k c.in_ok-before.before) stored_as (c.in_ok-before.ensures.before pages on stored (kept c.args.header.now stored pages database)) in
     let after = c.in-Some.ensures.after stored (stored_key c.args.space c.args.key.now) c.args.value.now (long ∙ ap length c.in-Ok.ensures) refl before in (
-      too_much_is c.args.limits.now c.args.space c.args.key.now c.args.value.now stored c.in_ok-before.before c.in-Some.after c.requires.key c.requires.value before after
+      full_is c.args.limits.now stored (stored_key c.args.space c.args.key.now) c.args.value.now c.in_ok-before.before c.in-Some.after before after
           ∙ sym c.is_over.ensures ∙ c.if-is_over.false,
       subst (λ k. AreDatabase (g.P.Pages.pages c.put_entry.new.p) c.in_ok-header.field-0 (insert stored k c.args.value.now)) stored_again
           (c.in_ok-header.ensures.put pages (c.in_ok-before.ensures.same (λ is. cc) ∙ on) stored database),
