@@ -532,7 +532,7 @@ fn cells_stand_in_walk_order(rt: HostRuntime) -> Result<(), Fail> {
 
 #[test]
 fn random_changes_leave_the_pages_that_the_rules_have(rt: HostRuntime) -> Result<(), Fail> {
-    for (seed, keys, steps) in [(1u64, 12u64, 300u32), (2, 90, 400), (3, 300, 600)] {
+    for (seed, keys, steps) in [(1u64, 12u64, 600u32), (2, 90, 900), (3, 300, 1500)] {
         let mut p = MemPages::new(rt.alloc(), &[])?;
         let wrong = first_disagreement(rt.alloc(), &mut p, seed, keys, steps)?;
         assert_eq!(rt; wrong, None, "the first step of {seed}");
