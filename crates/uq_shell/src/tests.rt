@@ -125,25 +125,18 @@ fn a_stored_key_is_fetched_as_a_json_string(rt: HostRuntime) -> Result<(), Fail>
 }
 
 #[test]
-fn keys_up_to_the_longest_are_stored_with_data_of_any_length(rt: HostRuntime) -> Result<(), Fail> {
+fn the_longest_key_is_stored_with_long_data(rt: HostRuntime) -> Result<(), Fail> {
     let mut disk = MemDisk::new(rt.alloc(), b"", b"", &[])?;
     let key = "k".repeat(rt.alloc(), 1024)?;
     let data = "d".repeat(rt.alloc(), 70_000)?;
-    let too_long = "k".repeat(rt.alloc(), 1025)?;
-    let runs: [(&[&str], &[u8]); 4] = [
-        (&["t.db", "store", key.as_str(), data.as_str()], b"ok\n"),
-        (&["t.db", "store", "a", ""], b"ok\n"),
-        (
-            &["t.db", "store", too_long.as_str(), "1"],
-            b"key too long\n",
-        ),
-        (&["t.db", "fetch", too_long.as_str()], b"key too long\n"),
-    ];
-    for (words, bytes) in runs {
-        let mut out = MemSink::new(rt.alloc(), &[])?;
-        obey(rt.alloc(), words, &mut disk, &mut out)?;
-        assert_eq!(rt; out.written(), bytes);
-    }
+    let mut out = MemSink::new(rt.alloc(), &[])?;
+    obey(
+        rt.alloc(),
+        &["t.db", "store", key.as_str(), data.as_str()],
+        &mut disk,
+        &mut out,
+    )?;
+    assert_eq!(rt; out.written(), "ok\n".as_bytes());
     let mut out = MemSink::new(rt.alloc(), &[])?;
     let end = obey(
         rt.alloc(),
@@ -154,6 +147,31 @@ fn keys_up_to_the_longest_are_stored_with_data_of_any_length(rt: HostRuntime) ->
     assert_eq!(rt; end, ended(Status::Done, 1));
     let quoted = format!(in rt.alloc(); "\"{data}\"\n")?;
     assert_eq!(rt; out.written(), quoted.as_bytes());
+    Ok(())
+}
+
+#[test]
+fn a_key_of_one_byte_more_is_refused(rt: HostRuntime) -> Result<(), Fail> {
+    let mut disk = MemDisk::new(rt.alloc(), b"", b"", &[])?;
+    let key = "k".repeat(rt.alloc(), 1025)?;
+    let mut out = MemSink::new(rt.alloc(), &[])?;
+    let end = obey(
+        rt.alloc(),
+        &["t.db", "store", key.as_str(), "1"],
+        &mut disk,
+        &mut out,
+    )?;
+    assert_eq!(rt; out.written(), "key too long\n".as_bytes());
+    assert_eq!(rt; end, ended(Status::Refused, 1));
+    let mut out = MemSink::new(rt.alloc(), &[])?;
+    let end = obey(
+        rt.alloc(),
+        &["t.db", "fetch", key.as_str()],
+        &mut disk,
+        &mut out,
+    )?;
+    assert_eq!(rt; out.written(), "key too long\n".as_bytes());
+    assert_eq!(rt; end, ended(Status::Refused, 1));
     Ok(())
 }
 
