@@ -220,7 +220,6 @@ fn cell_by_rules(
 ) -> Result<Vec<u8>, ChainFault> {
     let mut cell = Vec::new(alloc);
     let number_at = at.saturating_add(CELL_HEAD).saturating_add(kept.key.len());
-    let number = page.bytes().iter().skip(number_at).take(4);
     let is_inline = kept.value.len() <= MOST_INLINE;
     let mut whole = cell
         .extend_from_slice(&((kept.key.len() % 65536) as u16).to_be_bytes())
@@ -232,8 +231,10 @@ fn cell_by_rules(
     if is_inline {
         whole = whole && cell.extend_from_slice(&kept.value).is_ok();
     } else {
-        for byte in number {
-            whole = whole && cell.push(*byte).is_ok();
+        // Where the number would go past the page's end it has four bytes all the same: so the cell does not fit.
+        for at in 0..4 {
+            let byte = page.bytes().get(number_at.saturating_add(at)).copied();
+            whole = whole && cell.push(byte.unwrap_or(0)).is_ok();
         }
     }
     if whole {
