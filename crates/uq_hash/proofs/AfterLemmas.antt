@@ -49,7 +49,7 @@ pub values_stay : (before after : List (List ℕ)) (cells : List Stored) → ((n
 values_stay before after cells same all = All-from_recursion (HasValue after) cells (values_by before after cells same (recursion_from_All (HasValue before) cells all))
 
 -- the cells of groups of entries
-flat_cells : (groups : List (List Stored)) → map cell (flat groups) ≡ fill.flat (map (map cell) groups)
+pub flat_cells : (groups : List (List Stored)) → map cell (flat groups) ≡ fill.flat (map (map cell) groups)
 flat_cells [] = refl
 flat_cells (g ∷ gs) = map-append cell g (flat gs) ∙ ap (λ xs. map cell g ++ xs) (flat_cells gs)
 

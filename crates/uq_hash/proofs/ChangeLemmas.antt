@@ -17,7 +17,7 @@ pub record Changes (before b1 b2 b3 : List (List ℕ)) (f1 f2 f3 : ℕ) (free fi
   pub third : Turned b2 b3 f3 second.left old []
   pub used : (n : ℕ) → times n fixed + times n free + times n passed + times n gone + times n stay + times n old ≡ times n (range_with_len 0 (length before))
 
-range_once : (n k : ℕ) → times n (range_with_len 0 k) ≤ 1
+pub range_once : (n k : ℕ) → times n (range_with_len 0 k) ≤ 1
 range_once n k = by_cases (cases_lt n k)
   where
     by_cases : (n < k) ⊎ (k ≤ n) → times n (range_with_len 0 k) ≤ 1
@@ -54,7 +54,7 @@ count before b1 b2 b3 f1 f2 f3 free fixed passed gone stay old stored made so n 
     let d3 = times-append n so.second.left old in
     record { all = omega arith; once = range_once n (length b3); one = omega arith; two = omega arith; three = omega arith }
 
-within_before : (n k : ℕ) → 1 ≤ times n (range_with_len 0 k) → n < k
+pub within_before : (n k : ℕ) → 1 ≤ times n (range_with_len 0 k) → n < k
 within_before n k some = by_cases (cases_lt n k)
   where
     by_cases : (n < k) ⊎ (k ≤ n) → n < k

@@ -24,7 +24,7 @@ use Rattle.uq_hash.proofs.HeldLemmas.{one_bucket}
 use Rattle.uq_hash.proofs.SplitLemmas.{split_at}
 
 -- the pages of the one bucket
-bucket_pages : (n : ℕ) (index free : List ℕ) (bucket : Bucket) → times n (0 ∷ (index ++ (free ++ flat_map pages_of (bucket ∷ [])))) ≡ times n (0 ∷ index) + times n free + times n bucket.row + times n (value_pages bucket.cells)
+pub bucket_pages : (n : ℕ) (index free : List ℕ) (bucket : Bucket) → times n (0 ∷ (index ++ (free ++ flat_map pages_of (bucket ∷ [])))) ≡ times n (0 ∷ index) + times n free + times n bucket.row + times n (value_pages bucket.cells)
 bucket_pages n index free bucket =
     let a = times-cons n 0 (index ++ (free ++ flat_map pages_of (bucket ∷ []))) in
     let b = times-append n index (free ++ flat_map pages_of (bucket ∷ [])) in

@@ -82,7 +82,7 @@ inserted before b1 b2 b3 f1 f2 f3 kept header new m key value it standing held s
     subst P (append-nil stored.row) all stored.turned laid
 
 -- a value needs few pages
-pages_few : (len : ℕ) → len ≤ 2 ^ 24 → pages_for len ≤ 4113
+pub pages_few : (len : ℕ) → len ≤ 2 ^ 24 → pages_for len ≤ 4113
 pages_few len few = omega arith
 
 -- pages that hold a map have a place for a value

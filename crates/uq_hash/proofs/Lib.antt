@@ -9,11 +9,13 @@ pub mod FillLemmas
 pub mod FillingLemmas
 pub mod FindLemmas
 pub mod GatherLemmas
+pub mod GrowLemmas
 pub mod HeldLemmas
 pub mod HoldLemmas
 pub mod InsertLemmas
 pub mod KeyLemmas
 pub mod LawLemmas
+pub mod LookLemmas
 pub mod LyingLemmas
 pub mod OneLemmas
 pub mod OpenLemmas

@@ -24,7 +24,7 @@ stores_short before after head free key value same few list =
       turned = turned_none before head free list;
     })
 
-chain_first : (pages : List (List ℕ)) (first : ℕ) (row bytes : List ℕ) → IsChain pages first row bytes → first ≡ first_of row
+pub chain_first : (pages : List (List ℕ)) (first : ℕ) (row bytes : List ℕ) → IsChain pages first row bytes → first ≡ first_of row
 chain_first pages first [] bytes is = is.linked
 chain_first pages first (n ∷ row) bytes is = is.linked.is
 

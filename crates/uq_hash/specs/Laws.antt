@@ -1,6 +1,6 @@
 -- What follows from the layout alone.
 use Rattle.std.specs.Prelude.{◌≡◌, ℕ, ◌+◌, ◌*◌, List, [], ◌∷◌, length, sum_by, slice_set, Option, None, Some}
-use Rattle.std.specs.FinMap.{get, insert, len}
+use Rattle.std.specs.FinMap.{get, insert, len, remove}
 use Rattle.uq_page.specs.declared.header.Header.{Header}
 use Rattle.uq_page.specs.declared.layout.TheConstants.{CELL_HEAD}
 use Rattle.uq_hash.specs.Map.{Entry, Map, HoldsMap, bytes_in, cells_len, entry_len}
@@ -28,3 +28,10 @@ SumsOfInsert =
     (m : Map) (key value : List ℕ)
     → (len (insert m key value) + length (entry_of key (get m key)) ≡ len m + 1)
     × (bytes_in (insert m key value) + sum_by entry_len (entry_of key (get m key)) ≡ bytes_in m + (length key + length value))
+
+-- and after a removal: the entry of the key, which was there, is no longer counted
+abbrev pub SumsOfRemove : Type 0
+SumsOfRemove =
+    (m : Map) (key value : List ℕ) → get m key ≡ Some value
+    → (len (remove m key) + 1 ≡ len m)
+    × (bytes_in (remove m key) + (length key + length value) ≡ bytes_in m)

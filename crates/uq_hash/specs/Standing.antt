@@ -52,3 +52,8 @@ standing_key Nothing = None
 abbrev pub has_cell : Standing → Bool
 has_cell (AtCell cell) = true
 has_cell Nothing = false
+
+-- how long the value of the cell is
+abbrev pub standing_len : Standing → Option ℕ
+standing_len (AtCell cell) = Some cell.len
+standing_len Nothing = None

@@ -9,7 +9,7 @@ use std::alloc::Global;
 use uq_page::{ChainFault, MOST_INLINE};
 
 /// Appends bytes.
-fn append(cell: &mut Vec<u8>, bytes: &[u8]) -> Result<(), ChainFault>
+pub(crate) fn append(cell: &mut Vec<u8>, bytes: &[u8]) -> Result<(), ChainFault>
     ensures bytes { OnOk result (cell.new.items ≡ cell.old.items ++ bytes.now) }
     ensures cause { HasChainCause ⊥ ⊥ 0 0 true result }
 {

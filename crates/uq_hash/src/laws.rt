@@ -1,5 +1,5 @@
 //! Laws of the layout, each the contract of a call that changes nothing.
-ghost use Rattle.uq_hash.specs.Laws.{OneMap, ApartFromHeader, CellsBySums, SumsOfInsert};
+ghost use Rattle.uq_hash.specs.Laws.{OneMap, ApartFromHeader, CellsBySums, SumsOfInsert, SumsOfRemove};
 
 use uq_page::bytes_tell_fields;
 
@@ -23,4 +23,9 @@ pub fn cells_by_sums()
 /// What the sums in the header are after an insertion.
 pub fn sums_of_insert()
     ensures { SumsOfInsert }
+{}
+
+/// What the sums in the header are after a removal.
+pub fn sums_of_remove()
+    ensures { SumsOfRemove }
 {}

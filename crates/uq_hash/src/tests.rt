@@ -1,7 +1,9 @@
 //! What no clause shows: each call with ample memory, the bytes of pages, and pages by the rules after many changes.
 ghost use Rattle.std.specs.Prelude.{◌≡◌, ◌<◌, ◌≤◌, true, length, IfErr, IfOk, OnOk};
 
-use crate::{before, create, find, first, hash, insert, last, next_after, remove};
+use crate::{
+    append_at, before, create, find, first, hash, insert, last, look_for, next_after, remove,
+};
 use std::alloc::Global;
 use std::cmp::Ordering;
 use std::test::Fail;
@@ -150,6 +152,62 @@ fn put_in_both<P: Pages>(
             Ok(was_there)
         }
         Err(at) => match model.insert(at, Kept { key, value }) {
+            Ok(()) => Ok(!was_there),
+            Err(_) => Err(ChainFault::Memory),
+        },
+    }
+}
+
+/// Puts bytes behind a value, from the place of its key. `NoPage`, which no call answers, where a condition of
+/// `append_at` does not hold.
+fn add<P: Pages>(
+    alloc: Global,
+    p: &mut P,
+    h: &mut Header,
+    key: &[u8],
+    more: &[u8],
+) -> Result<bool, ChainFault>
+    requires { P.is_sound p.old ≡ true }
+    ensures sound { OnOk result (P.is_sound p.new ≡ true) }
+    ensures size { P.size p.old ≤ P.size p.new }
+{
+    if key.is_empty() || key.len() > 3001 {
+        return Err(ChainFault::NoPage);
+    }
+    if h.entries > 33_554_432 || h.bytes > 2_147_483_648 {
+        return Err(ChainFault::NoPage);
+    }
+    let at = look_for(p, h, key)?;
+    let old = match at.len() {
+        Some(len) => len as usize,
+        None => 0,
+    };
+    if old > 16_777_216 || more.len() > 16_777_216 - old {
+        return Err(ChainFault::NoPage);
+    }
+    append_at(alloc, p, h, &at, more)?;
+    Ok(at.len().is_some())
+}
+
+/// Puts bytes behind a value in both, likewise.
+fn add_to_both<P: Pages>(
+    alloc: Global,
+    p: &mut P,
+    h: &mut Header,
+    model: &mut Vec<Kept>,
+    key: Vec<u8>,
+    more: Vec<u8>,
+) -> Result<bool, ChainFault>
+    requires { P.is_sound p.old ≡ true }
+    ensures sound { OnOk result (P.is_sound p.new ≡ true) }
+{
+    let was_there = add(alloc, p, h, &key, &more)?;
+    match place(model, &key) {
+        Ok(at) => match model[at].value.extend_from_slice(&more) {
+            Ok(()) => Ok(was_there),
+            Err(_) => Err(ChainFault::Memory),
+        },
+        Err(at) => match model.insert(at, Kept { key, value: more }) {
             Ok(()) => Ok(!was_there),
             Err(_) => Err(ChainFault::Memory),
         },
@@ -418,7 +476,12 @@ fn step<P: Pages>(
     ensures sound { OnOk result (P.is_sound p.new ≡ true) }
 {
     let key = key_of(alloc, dice.roll(keys) as usize)?;
-    match dice.roll(8) {
+    match dice.roll(10) {
+        8 | 9 => {
+            let size = SIZES[dice.roll(7) as usize % 8];
+            let more = bytes_from(alloc, size, dice.roll(256) as usize)?;
+            add_to_both(alloc, p, h, model, key, more)
+        }
         0 | 1 | 2 => {
             // The longest comes once where each other one comes four times.
             let size = SIZES[dice.roll(29) as usize / 4 % 8];
