@@ -18,3 +18,4 @@ pub mod Backs
 pub mod Gathering
 pub mod Printed
 pub mod Verbatim
+pub mod Fronts

@@ -1,5 +1,6 @@
 pub mod Quote
 pub mod Strings
+pub mod Front
 pub mod Grammar
 pub mod Text
 pub mod Answer

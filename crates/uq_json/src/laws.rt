@@ -1,4 +1,5 @@
 //! What holds of JSON texts and values.
+ghost use Rattle.uq_json.specs.Front.{FrontIsString};
 ghost use Rattle.uq_json.specs.Laws.{OneAnswer, OneString, QuotesBack, PrintsBack, NoneBegins};
 
 /// A text has one answer, but for want of memory.
@@ -24,4 +25,9 @@ pub fn prints_back()
 /// No string begins another.
 pub fn none_begins()
     ensures { NoneBegins }
+{}
+
+/// The string at the front of a text is the one front of it that is a string.
+pub fn front_is_string()
+    ensures { FrontIsString }
 {}

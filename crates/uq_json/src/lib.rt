@@ -16,8 +16,8 @@ mod tests;
 mod unquoting;
 
 pub use error::JsonFault;
-pub use laws::{none_begins, one_answer, one_string, prints_back, quotes_back};
+pub use laws::{front_is_string, none_begins, one_answer, one_string, prints_back, quotes_back};
 pub use printing::{print_json, text_of};
 pub use quoting::quote;
 pub use reading::read_json;
-pub use unquoting::unquote;
+pub use unquoting::{split_string, unquote};

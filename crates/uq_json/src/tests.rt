@@ -310,6 +310,26 @@ fn strings_are_quoted_and_unquoted(rt: HostRuntime) {
 }
 
 #[test]
+fn the_string_at_the_front_is_split_off(rt: HostRuntime) {
+    let alloc = rt.alloc();
+    let table: [(&[u8], &[u8], &[u8]); 4] = [
+        (b"\"\"", b"", b""),
+        (b"\"a\\n\" b", b"a\n", b" b"),
+        (b"\"a\"\"b\"", b"a", b"\"b\""),
+        (b"\"\\u0041\"\"", b"A", b"\""),
+    ];
+    for (text, want, behind) in table {
+        let (bytes, rest) = split_string(alloc, text).expect(&rt, "a string");
+        assert_eq!(rt; bytes.as_slice(), want);
+        assert_eq!(rt; rest, behind);
+    }
+    let refused: [&[u8]; 5] = [b"", b"a", b" \"a\"", b"\"a", b"\"\\x\""];
+    for text in refused {
+        assert!(rt; matches!(split_string(alloc, text), Err(JsonFault::NotJson)));
+    }
+}
+
+#[test]
 fn control_bytes_are_spelled_by_escapes(rt: HostRuntime) {
     let alloc = rt.alloc();
     let spelled: [&[u8]; 32] = [

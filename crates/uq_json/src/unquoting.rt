@@ -1,7 +1,8 @@
 //! The bytes of a JSON string.
-ghost use Rattle.std.specs.Prelude.{◌≡◌};
+ghost use Rattle.std.specs.Prelude.{◌≡◌, ◌<◌, length, IfOk};
 ghost use Rattle.uq_value.specs.Data.{Bytes};
 ghost use Rattle.uq_json.specs.Answer.{AnswersString};
+ghost use Rattle.uq_json.specs.Front.{SplitsString};
 ghost use Rattle.uq_json.specs.Strings.{IsString};
 ghost use Rattle.uq_json.specs.Internal.Reading.{Gives, inside_at, string_at};
 
@@ -22,6 +23,15 @@ pub fn unquote(alloc: Global, text: &[u8]) -> Result<Vec<u8>, JsonFault>
     } else {
         Err(JsonFault::NotJson)
     }
+}
+
+/// The bytes of the JSON string at the front of the text, and the text behind it. It is `NotJson` exactly where no front
+/// of the text is a string; no other refusal comes but `Memory`.
+pub fn split_string(alloc: Global, text: &[u8]) -> Result<(Vec<u8>, &[u8]), JsonFault>
+    ensures shorter { IfOk result (λ x. length x.1.now < length text.now) }
+    ensures splits { SplitsString (λ x. (x.0.items, x.1.now)) text.now result }
+{
+    string(alloc, text)
 }
 
 /// The string at the front of the text, and the text behind it.
