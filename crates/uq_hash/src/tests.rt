@@ -1,8 +1,9 @@
 //! What no clause shows: each call with ample memory, the bytes of pages, and pages by the rules after many changes.
 ghost use Rattle.std.specs.Prelude.{◌≡◌, ◌<◌, ◌≤◌, true, length, IfErr, IfOk, OnOk};
+ghost use Rattle.uq_hash.specs.Looks.{len_or_none};
 
 use crate::{
-    append_at, before, create, find, first, hash, insert, last, look_for, next_after, remove,
+    Look, append_at, before, create, find, first, hash, insert, last, look_for, next_after, remove,
 };
 use std::alloc::Global;
 use std::cmp::Ordering;
@@ -158,6 +159,16 @@ fn put_in_both<P: Pages>(
     }
 }
 
+/// How long the value at a place is.
+fn old_len(at: &Look<'_>) -> u32
+    ensures { result ≡ len_or_none at.now.len }
+{
+    match at.len() {
+        Some(len) => len,
+        None => 0,
+    }
+}
+
 /// Puts bytes behind a value, from the place of its key. `NoPage`, which no call answers, where a condition of
 /// `append_at` does not hold.
 fn add<P: Pages>(
@@ -178,11 +189,8 @@ fn add<P: Pages>(
         return Err(ChainFault::NoPage);
     }
     let at = look_for(p, h, key)?;
-    let old = match at.len() {
-        Some(len) => len as usize,
-        None => 0,
-    };
-    if old > 16_777_216 || more.len() > 16_777_216 - old {
+    let old = old_len(&at);
+    if old > 16_777_216 || more.len() > 16_777_216 - old as usize {
         return Err(ChainFault::NoPage);
     }
     append_at(alloc, p, h, &at, more)?;

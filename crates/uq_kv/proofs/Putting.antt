@@ -1,52 +1,95 @@
--- An entry put in, and the header on page 0.
-use Rattle.std.proofs.Common.{◌≡◌, ℕ, ◌≤◌, Bool, true, List, length, Option, Some, None, inr, refl, ap, subst, ◌∙◌, arith}
-use Rattle.std.specs.Prelude.{Result, is_some, slice_set}
+-- Changes of the map in the pages, and the header on page 0.
+use Rattle.std.proofs.Common.{◌≡◌, ℕ, ◌+◌, ◌≤◌, true, false, List, ◌++◌, length, Option, Some, None, inr, refl, sym, ap, subst, ◌∙◌, arith}
+use Rattle.std.specs.Prelude.{IfNone, is_some, slice_set}
 use Rattle.std.specs.Option.{ForSome, option_map}
-use Rattle.std.specs.FinMap.{insert}
-use Rattle.uq_page.specs.Header.{IsHeader}
+use Rattle.std.specs.Ordering.{nat_cmp}
+use Rattle.std.specs.Cmp.Lexicographic.{slice_cmp}
+use Rattle.std.specs.FinMap.{contains_key, empty, get, get-empty, insert, remove}
 use Rattle.uq_page.specs.declared.header.Header.{Header}
-use Rattle.uq_hash.specs.Causes.{HasMapCause}
-use Rattle.uq_page.specs.Pages.{HasPagesCause}
-use Rattle.uq_page.specs.declared.error.ChainFault.{ChainFault}
-use Rattle.uq_page.specs.declared.error.ChainFault.TheVariants.{Failed}
-use Rattle.uq_hash.specs.Laws.{ApartFromHeader}
-use Rattle.uq_hash.specs.Map.{HoldsMap, WhereHeld}
+use Rattle.uq_hash.specs.Laws.{ApartFromHeader, SumsOfRemove}
+use Rattle.uq_hash.specs.Looks.{len_or_none, value_or_none}
+use Rattle.uq_hash.specs.Map.{HoldsMap, IsCreated, WhereHeld}
 use Rattle.uq_pager.specs.Lists.{get_set_here}
-use Rattle.uq_kv.specs.Database.{WhereKept, WhereStored}
-use Rattle.uq_kv.specs.Stored.{IsWithinLimits}
-use Rattle.uq_kv.specs.Writing.{AreDatabase, HasStoreCause, HoldsNow}
-use Rattle.uq_kv.proofs.Databases.{kept}
+use Rattle.uq_kv.specs.Database.{WhereKept}
+use Rattle.uq_kv.specs.Stored.{IsWithinLimits, Stored}
+use Rattle.uq_kv.specs.Writing.{AreDatabase, HasHead, HoldsNow, added}
+use Rattle.uq_kv.proofs.Databases.{no_keys, of_held}
 
-told_some : (o : Option (List (List ℕ))) → is_some o ≡ true → (pages : List (List ℕ)) × (o ≡ Some pages)
+pub told_some : (o : Option (List (List ℕ))) → is_some o ≡ true → (pages : List (List ℕ)) × (o ≡ Some pages)
 told_some None is = absurd (cc)
 told_some (Some pages) is = (pages, refl)
 
-module _ (old mid : Option (List (List ℕ))) (header first : Header) (holds : WhereKept old header (HoldsNow mid first)) where
-  -- the header stands on page 0, at which a map does not look
-  pub put_done : ApartFromHeader → (key value : List ℕ) (after now : Option (List (List ℕ))) (new : Header) (head : List ℕ) (size : ℕ)
-      → WhereHeld mid first (λ m. ForSome after (λ pages. HoldsMap pages new (insert m key value))) → is_some after ≡ is_some mid
-      → ForSome after (λ pages. size ≡ length pages) → 1 ≤ size → now ≡ option_map (λ pages. slice_set pages 0 head) after → IsHeader head new
-      → WhereStored old header (λ stored. IsWithinLimits (insert stored key value)) → WhereStored old header (λ stored. AreDatabase now new (insert stored key value))
-  put_done apart key value after now new head size inserted told size_is some written fields within pages on stored database =
-      let keeps = kept header stored pages database in
-      let middle = holds pages on stored keeps in
-      let there = told_some after (told ∙ ap is_some middle.is_told) in
-      let map = inserted middle.pages middle.is_told stored middle.map there.0 there.1 in
-      let long = size_is there.0 there.1 in
-      record {
-        pages = slice_set there.0 0 head;
-        is_told = written ∙ ap (option_map (λ ps. slice_set ps 0 head)) there.1;
-        database = inr (record {
-          head = record { page = head; first = get_set_here there.0 0 head (omega arith); fields = fields };
-          map = apart there.0 new (insert stored key value) head map;
-          limits = within pages on stored database;
-        });
-      }
+-- the header stands on page 0, at which a map does not look
+pub headed : ApartFromHeader → (after now : Option (List (List ℕ))) (new : Header) (m : Stored) (size : ℕ) → ForSome after (λ pages. size ≡ length pages) → 1 ≤ size
+    → HoldsNow after new m → HasHead after now new → IsWithinLimits m → AreDatabase now new m
+headed apart after now new m size size_is some holds head within =
+    let long = size_is holds.pages holds.is_told in
+    record {
+      pages = slice_set holds.pages 0 head.head;
+      is_told = head.is ∙ ap (option_map (λ ps. slice_set ps 0 head.head)) holds.is_told;
+      database = inr (record {
+        head = record { page = head.head; first = get_set_here holds.pages 0 head.head (omega arith); fields = head.fields };
+        map = apart holds.pages new m head.head holds.map;
+        limits = within;
+      });
+    }
 
-  -- what is no map by then was no database
-  pub insert_cause : {T : Type 0} (result : Result T ChainFault) (before between now : ℕ) (is_sound : Bool) → between ≡ before → HasMapCause mid first between now is_sound result → HasStoreCause old header before now is_sound result
-  insert_cause result before between now is_sound count cause = record {
-    pages = subst (λ (n : ℕ). HasPagesCause Failed n now is_sound result) count cause.pages;
-    corrupt = λ is pages on stored database. let middle = holds pages on stored (kept header stored pages database) in cause.corrupt is middle.pages middle.is_told stored middle.map;
-    no_page = cause.no_page;
-  }
+module _ (told : Option (List (List ℕ))) (header : Header) (size : ℕ) (size_is : ForSome told (λ pages. size ≡ length pages)) where
+  -- a change of the pages that there are
+  pub changed_now : (F : Stored → Stored) (after : Option (List (List ℕ))) (new : Header) → 1 ≤ size → WhereHeld told header (λ m. ForSome after (λ pages. HoldsMap pages new (F m))) → is_some after ≡ is_some told
+      → WhereKept told header (λ stored. HoldsNow after new (F stored))
+  changed_now F after new some changes still =
+      of_held told header size size_is (λ stored. HoldsNow after new (F stored)) some (λ pages on m map.
+      let there = told_some after (still ∙ ap is_some on) in
+      record { pages = there.0; is_told = there.1; map = changes pages on m map there.0 there.1 })
+
+  -- and of the first ones
+  pub made_now : (F G : Stored → Stored) (mid after : Option (List (List ℕ))) (first new : Header) → size ≡ 0 → F empty ≡ G empty → IsCreated told mid first
+      → WhereHeld mid first (λ m. ForSome after (λ pages. HoldsMap pages new (F m))) → is_some after ≡ is_some mid → WhereKept told header (λ stored. HoldsNow after new (G stored))
+  made_now F G mid after first new none same created changes still pages on stored keeps =
+      let long = size_is pages on in
+      let is = no_keys header stored pages (omega arith) keeps in
+      let middle = created.pages ∙ ap (option_map _) on in
+      let held = created.holds _ middle in
+      let there = told_some after (still ∙ ap is_some middle) in
+      record { pages = there.0; is_told = there.1; map = subst (λ (m : Stored). HoldsMap there.0 new m) (same ∙ ap G (sym is)) (changes _ middle empty held there.0 there.1) }
+
+-- behind no data the bytes are the data
+pub added_empty : (key more : List ℕ) → insert empty key more ≡ added empty key more
+added_empty key more = ap (λ (old : Option (List ℕ)). insert empty key (value_or_none old ++ more)) (sym (get-empty (slice_cmp nat_cmp) key))
+
+-- an entry less is within the limits where all were
+pub less_within : SumsOfRemove → (m : Stored) (key : List ℕ) → contains_key m key ≡ true → IsWithinLimits m → IsWithinLimits (remove m key)
+less_within law m key there within = by_old (get m key) refl there
+  where
+    by_old : (old : Option (List ℕ)) → get m key ≡ old → is_some old ≡ true → IsWithinLimits (remove m key)
+    by_old None is there = absurd (cc)
+    by_old (Some value) is there =
+        let sums = law m key value is in
+        let keys = sums.0 in
+        let bytes = sums.1 in
+        let entries_most = within.entries in
+        let bytes_most = within.bytes in
+        record { entries = omega arith; bytes = omega arith }
+
+-- whether a key is there, by how long its data were found
+pub found_none : (old : Option (List ℕ)) (len : Option ℕ) → len ≡ option_map length old → ((n : ℕ) → len ≡ Some n → ⊥) → is_some old ≡ false
+found_none None len is none = refl
+found_none (Some value) len is none = absurd (none (length value) is)
+
+pub found_some : (old : Option (List ℕ)) (len : Option ℕ) (n : ℕ) → len ≡ option_map length old → len ≡ Some n → is_some old ≡ true
+found_some None len n is some = let other : ◌≡◌ {A = Option ℕ} None (Some n) = sym is ∙ some in absurd (cc)
+found_some (Some value) len n is some = refl
+
+-- and how long they are
+pub old_long : (old : Option (List ℕ)) (len : Option ℕ) → len ≡ option_map length old → len_or_none len ≡ length (value_or_none old)
+old_long None len is = ap len_or_none is
+old_long (Some value) len is = ap len_or_none is
+
+pub too_long : {X : Type 0} {A : Type 0} (o : Option X) → IfNone o A → ((x : X) → o ≡ Some x → ⊥) → A
+too_long None is none = is
+too_long (Some x) is none = absurd (none x refl)
+
+pub some_long : (old : Option (List ℕ)) → is_some (option_map length old) ≡ is_some old
+some_long None = refl
+some_long (Some value) = refl

@@ -11,7 +11,7 @@ use Rattle.uq_kv.specs.declared.error.KvFault.TheVariants.{EmptyKey, KeyTooLong,
 use Rattle.uq_kv.specs.declared.kv.Kv.{Kv}
 use Rattle.uq_kv.specs.Calls.{FailsBy, IsAmong, behind, closed_by, seen_by, stop_of}
 use Rattle.uq_kv.specs.Kv.{Does, HasCauses, Tells, closed_of}
-use Rattle.uq_kv.specs.Lengths.{RefusesLengths, is_of_length, then_checked}
+use Rattle.uq_kv.specs.Lengths.{RefusesKeys, RefusesLengths, is_of_key, is_of_length, then_checked}
 use Rattle.uq_kv.specs.Stored.{Stored}
 
 pub key_of_length : (fault : KvFault) → (fault ≡ EmptyKey) ⊎ (fault ≡ KeyTooLong) → is_of_length fault ≡ true
@@ -49,6 +49,35 @@ module _ {T : Type 0} (checked : Result (Unit {0}) KvFault) (result : Result T K
       (λ (now : result ≡ Err other). let same : fault ≡ other = cc in absurd (false≢true (sym unlike ∙ ap is_of_length same ∙ of_length))),
       (λ (now : checked ≡ Err other). absurd (cc)),
     )
+
+-- the same of keys alone
+pub of_key : (fault : KvFault) → is_of_key fault ≡ true → is_of_length fault ≡ true
+of_key EmptyKey is = refl
+of_key KeyTooLong is = refl
+of_key ValueTooLong is = absurd (false≢true is)
+of_key Full is = absurd (false≢true is)
+of_key NotFound is = absurd (false≢true is)
+of_key NoEntry is = absurd (false≢true is)
+of_key Disk is = absurd (false≢true is)
+of_key Corrupt is = absurd (false≢true is)
+of_key (Closed first) is = absurd (false≢true is)
+of_key Memory is = absurd (false≢true is)
+
+pub stop_not_key : (fault : ChainFault) → is_of_key (stop_of fault) ≡ false
+stop_not_key chain.Failed = refl
+stop_not_key chain.Corrupt = refl
+stop_not_key chain.NoPage = refl
+stop_not_key chain.Memory = refl
+
+module _ {T : Type 0} (checked : Result (Unit {0}) KvFault) (result : Result T KvFault) where
+  pub keys_refused : RefusesLengths checked result → RefusesKeys checked result
+  keys_refused refused fault is = refused fault (of_key fault is)
+
+  pub keys_else : checked ≡ Ok tt → (fault : KvFault) → is_of_key fault ≡ false → result ≡ Err fault → RefusesKeys checked result
+  keys_else passes fault unlike answered other of_it = (
+    (λ (now : result ≡ Err other). let same : fault ≡ other = cc in absurd (false≢true (sym unlike ∙ ap is_of_key same ∙ of_it))),
+    (λ (now : checked ≡ Err other). absurd (cc)),
+  )
 
 -- ---- what a call leaves that was refused so
 

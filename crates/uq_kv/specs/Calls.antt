@@ -1,8 +1,9 @@
 -- What each call answers over a session, and what it leaves of the session.
-use Rattle.std.specs.Prelude.{◌≡◌, ◌⊎◌, ℕ, Bool, true, false, not, if◌then◌else◌, List, [], ◌∷◌, Option, Some, None, Result, Ok, Err, IfErr}
-use Rattle.std.specs.FinMap.{get, insert}
+use Rattle.std.specs.Prelude.{◌≡◌, ◌⊎◌, ℕ, Bool, true, false, not, if◌then◌else◌, List, [], ◌∷◌, ◌++◌, Option, Some, None, Result, Ok, Err, IfErr}
+use Rattle.std.specs.FinMap.{contains_key, get, insert, remove}
 use Rattle.uq_page.specs.declared.error.ChainFault.{ChainFault}
 use Rattle.uq_page.specs.declared.error.ChainFault.TheVariants as chain
+use Rattle.uq_hash.specs.Looks.{value_or_none}
 use Rattle.uq_model.specs.Session.{Call, with_present}
 use Rattle.uq_model.specs.declared.cause.Cause.{Cause}
 use Rattle.uq_model.specs.declared.cause.Cause.TheVariants as cause
@@ -11,7 +12,7 @@ use Rattle.uq_kv.specs.declared.error.KvFault.{KvFault}
 use Rattle.uq_kv.specs.declared.error.KvFault.TheVariants.{EmptyKey, KeyTooLong, ValueTooLong, Full, NotFound, NoEntry, Disk, Corrupt, Closed, Memory}
 use Rattle.uq_kv.specs.declared.space.Space.{Space}
 use Rattle.uq_kv.specs.Full.{is_too_much}
-use Rattle.uq_kv.specs.Lengths.{entry_checked, key_checked}
+use Rattle.uq_kv.specs.Lengths.{entry_checked, key_checked, value_checked}
 use Rattle.uq_kv.specs.Stored.{Stored, stored_key}
 
 -- ---- each call, as a function of the session
@@ -30,6 +31,19 @@ puts limits space key value s =
 -- `EmptyKey`, `KeyTooLong`, `ValueTooLong`, `Full`
 abbrev pub stores : Limits → Space → List ℕ → List ℕ → Call Stored (Result (Unit {0}) KvFault)
 stores limits space key value = behind (entry_checked key value) (puts limits space key value)
+
+-- `EmptyKey`, `KeyTooLong`, `ValueTooLong` by the resulting length, `Full`; else the bytes are behind the data, of which an absent entry has none
+abbrev pub appends : Limits → Space → List ℕ → List ℕ → Call Stored (Result (Unit {0}) KvFault)
+appends limits space key more = behind (key_checked key) (λ s.
+    behind (value_checked (value_or_none (get s.present (stored_key space key)) ++ more)) (puts limits space key (value_or_none (get s.present (stored_key space key)) ++ more)) s)
+
+-- what is left where an entry is taken out that is there or not, by the refusal for the latter
+abbrev pub takes : KvFault → List ℕ → Call Stored (Result (Unit {0}) KvFault)
+takes fault key s = if contains_key s.present key then (Ok tt, with_present (remove s.present key) s) else (Err fault, s)
+
+-- `EmptyKey`, `KeyTooLong`, `NotFound`; else the entry is gone, and a transaction is begun
+abbrev pub deletes : Space → List ℕ → Call Stored (Result (Unit {0}) KvFault)
+deletes space key = behind (key_checked key) (takes NotFound (stored_key space key))
 
 abbrev pub found : Option (List ℕ) → Result (List ℕ) KvFault
 found None = Err NotFound

@@ -40,3 +40,20 @@ is_of_length Memory = false
 -- lengths are refused exactly where they should be
 abbrev pub RefusesLengths : {T : Type 0} → Result (Unit {0}) KvFault → Result T KvFault → Type 0
 RefusesLengths checked result = (fault : KvFault) → is_of_length fault ≡ true → (result ≡ Err fault) ↔ (checked ≡ Err fault)
+
+-- a refusal of the length of a key
+abbrev pub is_of_key : KvFault → Bool
+is_of_key EmptyKey = true
+is_of_key KeyTooLong = true
+is_of_key ValueTooLong = false
+is_of_key Full = false
+is_of_key NotFound = false
+is_of_key NoEntry = false
+is_of_key Disk = false
+is_of_key Corrupt = false
+is_of_key (Closed first) = false
+is_of_key Memory = false
+
+-- keys are refused by their lengths exactly where they should be
+abbrev pub RefusesKeys : {T : Type 0} → Result (Unit {0}) KvFault → Result T KvFault → Type 0
+RefusesKeys checked result = (fault : KvFault) → is_of_key fault ≡ true → (result ≡ Err fault) ↔ (checked ≡ Err fault)

@@ -6,7 +6,7 @@ ghost use Rattle.uq_model.specs.declared.limits.TheConstants.{MOST_BYTES, MOST_E
 use crate::KvFault;
 use uq_model::{Cause, Limits};
 use uq_outside::Disk;
-use uq_page::Header;
+use uq_page::{Header, Pages};
 use uq_pager::Pager;
 
 /// Keys with their data over a disk, with one transaction at a time.
@@ -34,7 +34,9 @@ pub struct Kv<'d, D: Disk> {
 impl<'d, D: Disk> Kv<'d, D> {
     ghost use Rattle.std.specs.Prelude.{◌≡◌, ◌↔◌, IsOk, IfErr, None};
     ghost use Rattle.std.specs.Option.{ForSome};
+    ghost use Rattle.std.specs.FinMap.{len};
     ghost use Rattle.uq_outside.specs.Since.{IsSettled};
+    ghost use Rattle.uq_hash.specs.Map.{bytes_in};
     ghost use Rattle.uq_model.specs.Session.{Session};
     ghost use Rattle.uq_model.specs.declared.cause.Cause.{Cause};
     ghost use Rattle.uq_kv.specs.Holds.{LeavesNow};
@@ -50,6 +52,26 @@ impl<'d, D: Disk> Kv<'d, D> {
             Some(first) => Err(KvFault::Closed { first }),
             None => Ok(()),
         }
+    }
+
+    /// How many entries are there, where the store is not closed.
+    pub fn entries(&self) -> u64
+        ensures { (s : Session Stored) → Tells D.Disk self.now s → result ≡ len s.present }
+    {
+        if self.pager.count() == 0 {
+            return 0;
+        }
+        self.header.entries
+    }
+
+    /// How many bytes their stored keys and data have, where the store is not closed.
+    pub fn bytes(&self) -> u64
+        ensures { (s : Session Stored) → Tells D.Disk self.now s → result ≡ bytes_in s.present }
+    {
+        if self.pager.count() == 0 {
+            return 0;
+        }
+        self.header.bytes
     }
 
     /// Gives the disk back. What was not committed is gone.

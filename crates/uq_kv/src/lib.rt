@@ -8,6 +8,8 @@ mod kv;
 mod limits;
 mod opening;
 mod recovering;
+#[cfg(test)]
+mod sequences;
 mod space;
 #[cfg(test)]
 mod tests;

@@ -1,4 +1,4 @@
-use Rattle.std.proofs.Common.{◌≡◌, ℕ, ◌++◌, Err, Option, Some, List, refl, sym, ap, subst, ◌∙◌, arith}
+use Rattle.std.proofs.Common.{◌≡◌, ℕ, ◌++◌, Err, Option, List, refl, sym, ap, subst, ◌∙◌, arith}
 use Rattle.std.specs.Option.{ok_or, IfSome, IsSomeAnd}
 use Rattle.std.specs.FinMap.{get, insert}
 use Rattle.std.proofs.lemmas.Result.{err_from_is_err_and}

@@ -1,0 +1,322 @@
+//! Random sequences of calls against maps that the test keeps.
+use crate::{Kv, KvFault, MOST_VALUE, Space};
+use std::alloc::Global;
+use std::test::Fail;
+use uq_model::{Limits, MOST_BYTES, MOST_ENTRIES};
+use uq_outside::MemDisk;
+
+/// So many entries and bytes fit, so that some writes are refused.
+const FEW: Limits = Limits {
+    entries: 60,
+    bytes: 100_000,
+};
+
+/// The greatest limits.
+const LIMITS: Limits = Limits {
+    entries: MOST_ENTRIES,
+    bytes: MOST_BYTES,
+};
+
+/// How long the data are that are stored, and those that are put behind others.
+const SIZES: [usize; 8] = [0, 1, 100, 155, 255, 256, 4_000, 9_000];
+
+/// A sequence of numbers that looks random.
+#[derive(Drop)]
+struct Dice {
+    state: u64,
+}
+
+impl Dice {
+    fn roll(&mut self, below: usize) -> usize {
+        self.state = self
+            .state
+            .wrapping_mul(6364136223846793005)
+            .wrapping_add(1442695040888963407);
+        if below == 0 {
+            0
+        } else {
+            (self.state >> 33) as usize % below
+        }
+    }
+}
+
+/// An entry, as the model keeps it.
+#[derive(Drop)]
+struct Entry {
+    space: Space,
+    key: Vec<u8>,
+    data: Vec<u8>,
+}
+
+/// What a store should be.
+#[derive(Drop)]
+struct Model {
+    saved: Vec<Entry>,
+    present: Vec<Entry>,
+    begun: bool,
+}
+
+fn copy_of(alloc: Global, bytes: &[u8]) -> Result<Vec<u8>, Fail> {
+    Ok(Vec::from_slice(alloc, bytes)?)
+}
+
+fn copies_of(alloc: Global, entries: &[Entry]) -> Result<Vec<Entry>, Fail> {
+    let mut copies = Vec::new(alloc);
+    for entry in entries {
+        copies.push(Entry {
+            space: entry.space,
+            key: copy_of(alloc, &entry.key)?,
+            data: copy_of(alloc, &entry.data)?,
+        })?;
+    }
+    Ok(copies)
+}
+
+fn find(entries: &[Entry], space: Space, key: &[u8]) -> Option<usize> {
+    entries.iter().position(|entry| entry.space == space && entry.key.as_slice() == key)
+}
+
+fn data_of<'e>(entries: &'e [Entry], space: Space, key: &[u8]) -> Option<&'e [u8]> {
+    for entry in entries {
+        if entry.space == space && entry.key.as_slice() == key {
+            return Some(entry.data.as_slice());
+        }
+    }
+    None
+}
+
+/// Whether a call answered these data, or this refusal where there are none.
+fn is_answer(answer: &Result<Vec<u8>, KvFault>, want: Option<&[u8]>, refusal: KvFault) -> bool {
+    match (answer, want) {
+        (Ok(found), Some(want)) => found.as_slice() == want,
+        (Err(fault), None) => *fault == refusal,
+        _ => false,
+    }
+}
+
+impl Model {
+    fn bytes(&self) -> usize {
+        let mut bytes = 0usize;
+        for entry in &self.present {
+            bytes = bytes
+                .saturating_add(1)
+                .saturating_add(entry.key.len())
+                .saturating_add(entry.data.len());
+        }
+        bytes
+    }
+
+    /// Whether a write of data of this length is refused.
+    fn is_full(&self, space: Space, key: &[u8], len: usize) -> bool {
+        let bytes = self.bytes();
+        let (has_more, now) = match data_of(&self.present, space, key) {
+            Some(old) => (
+                len > old.len(),
+                bytes.saturating_sub(old.len()).saturating_add(len),
+            ),
+            None => (
+                true,
+                bytes
+                    .saturating_add(1)
+                    .saturating_add(key.len())
+                    .saturating_add(len),
+            ),
+        };
+        let is_new = find(&self.present, space, key).is_none();
+        (is_new && self.present.len() >= 60) || (has_more && now > 100_000)
+    }
+
+    fn put(&mut self, space: Space, key: Vec<u8>, data: Vec<u8>) -> Result<(), Fail> {
+        self.take(space, &key);
+        self.present.push(Entry { space, key, data })?;
+        self.begun = true;
+        Ok(())
+    }
+
+    fn take(&mut self, space: Space, key: &[u8]) -> bool {
+        match find(&self.present, space, key) {
+            Some(at) => {
+                if at < self.present.len() {
+                    self.present.remove(at);
+                }
+                self.begun = true;
+                true
+            }
+            None => false,
+        }
+    }
+}
+
+/// A key of few, so that they meet again.
+fn some_key(alloc: Global, dice: &mut Dice) -> Result<Vec<u8>, Fail> {
+    let id = dice.roll(90);
+    let mut key = Vec::new(alloc);
+    for at in 0..1 + id % 40 * 9 {
+        key.push(id.wrapping_mul(7).wrapping_add(at) as u8)?;
+    }
+    Ok(key)
+}
+
+fn some_data(alloc: Global, dice: &mut Dice) -> Result<Vec<u8>, Fail> {
+    let size = SIZES[dice.roll(8) % 8];
+    let seed = dice.roll(256);
+    let mut data = Vec::new(alloc);
+    for at in 0..size {
+        data.push((at % 251).wrapping_add(seed) as u8)?;
+    }
+    Ok(data)
+}
+
+/// A write or a look at one key, by the store and the model. Answers whether they agree.
+fn entry_step(
+    alloc: Global,
+    kv: &mut Kv<'_, MemDisk>,
+    model: &mut Model,
+    dice: &mut Dice,
+) -> Result<bool, Fail> {
+    let space = if dice.roll(3) == 0 {
+        Space::Docs
+    } else {
+        Space::Keys
+    };
+    let key = some_key(alloc, dice)?;
+    match dice.roll(5) {
+        0 => {
+            let data = some_data(alloc, dice)?;
+            let answer = kv.store(alloc, space, &key, &data);
+            if model.is_full(space, &key, data.len()) {
+                return Ok(answer == Err(KvFault::Full));
+            }
+            model.put(space, key, data)?;
+            Ok(answer == Ok(()))
+        }
+        1 | 2 => {
+            let more = some_data(alloc, dice)?;
+            let answer = kv.append(alloc, space, &key, &more);
+            let mut data = Vec::new(alloc);
+            if let Some(old) = data_of(&model.present, space, &key) {
+                data.extend_from_slice(old)?;
+            }
+            data.extend_from_slice(&more)?;
+            if model.is_full(space, &key, data.len()) {
+                return Ok(answer == Err(KvFault::Full));
+            }
+            model.put(space, key, data)?;
+            Ok(answer == Ok(()))
+        }
+        3 => {
+            let answer = kv.delete(alloc, space, &key);
+            if model.take(space, &key) {
+                Ok(answer == Ok(()))
+            } else {
+                Ok(answer == Err(KvFault::NotFound))
+            }
+        }
+        _ => {
+            let answer = kv.fetch(alloc, space, &key);
+            Ok(is_answer(
+                &answer,
+                data_of(&model.present, space, &key),
+                KvFault::NotFound,
+            ))
+        }
+    }
+}
+
+/// Begin, commit or rollback.
+fn turn_step(
+    alloc: Global,
+    kv: &mut Kv<'_, MemDisk>,
+    model: &mut Model,
+    dice: &mut Dice,
+) -> Result<bool, Fail> {
+    match dice.roll(3) {
+        0 => {
+            model.begun = true;
+            Ok(kv.begin() == Ok(()))
+        }
+        1 => {
+            let answer = kv.commit();
+            let was = model.begun;
+            model.saved = copies_of(alloc, &model.present)?;
+            model.begun = false;
+            Ok(answer == Ok(was))
+        }
+        _ => {
+            model.present = copies_of(alloc, &model.saved)?;
+            model.begun = false;
+            Ok(kv.rollback() == Ok(()))
+        }
+    }
+}
+
+/// One call of the store and of the model. Answers whether they agree.
+fn step(
+    alloc: Global,
+    kv: &mut Kv<'_, MemDisk>,
+    model: &mut Model,
+    dice: &mut Dice,
+) -> Result<bool, Fail> {
+    match dice.roll(20) {
+        0 => turn_step(alloc, kv, model, dice),
+        1..=15 => entry_step(alloc, kv, model, dice),
+        _ => Ok(kv.entries() == model.present.len() as u64 && kv.bytes() == model.bytes() as u64),
+    }
+}
+
+/// Runs so many steps in each of so many sessions over one disk. Answers how many were right.
+fn run(alloc: Global, sessions: usize, steps: usize) -> Result<usize, Fail> {
+    let mut disk = MemDisk::new(alloc, b"", b"", &[])?;
+    let mut dice = Dice { state: 42 };
+    let mut model = Model {
+        saved: Vec::new(alloc),
+        present: Vec::new(alloc),
+        begun: false,
+    };
+    let mut right = 0usize;
+    for _session in 0..sessions {
+        let mut kv = Kv::open(alloc, &mut disk, FEW)?;
+        for _step in 0..steps {
+            if !step(alloc, &mut kv, &mut model, &mut dice)? {
+                return Ok(right);
+            }
+            right = right.saturating_add(1);
+        }
+        if dice.roll(2) == 0 {
+            let (answer, _disk) = kv.close();
+            answer?;
+            model.saved = copies_of(alloc, &model.present)?;
+        } else {
+            model.present = copies_of(alloc, &model.saved)?;
+        }
+        model.begun = false;
+    }
+    Ok(right)
+}
+
+#[test]
+fn ten_thousand_calls_are_those_of_maps(rt: HostRuntime) -> Result<(), Fail> {
+    assert_eq!(rt; run(rt.alloc(), 1, 10_000)?, 10_000);
+    Ok(())
+}
+
+#[test]
+fn a_store_that_is_opened_again_goes_on(rt: HostRuntime) -> Result<(), Fail> {
+    assert_eq!(rt; run(rt.alloc(), 100, 40)?, 4_000);
+    Ok(())
+}
+
+#[test]
+fn data_grow_to_their_limit_and_no_further(rt: HostRuntime) -> Result<(), Fail> {
+    let alloc = rt.alloc();
+    let mut disk = MemDisk::new(alloc, b"", b"", &[])?;
+    let mut kv = Kv::open(alloc, &mut disk, LIMITS)?;
+    let most = vec![in alloc; b'v'; MOST_VALUE]?;
+    assert!(rt; kv.store(alloc, Space::Keys, b"a", &most[1..]) == Ok(()));
+    assert!(rt; kv.append(alloc, Space::Keys, b"a", b"v") == Ok(()));
+    assert!(rt; kv.append(alloc, Space::Keys, b"a", b"v") == Err(KvFault::ValueTooLong));
+    assert!(rt; kv.append(alloc, Space::Keys, b"a", b"") == Ok(()));
+    assert!(rt; kv.bytes() == 2 + MOST_VALUE as u64);
+    assert!(rt; kv.fetch(alloc, Space::Keys, b"a")?.as_slice() == most.as_slice());
+    Ok(())
+}
