@@ -152,7 +152,7 @@ fn some_key(alloc: Global, dice: &mut Dice) -> Result<Vec<u8>, Fail> {
     let id = dice.roll(90);
     let mut key = Vec::new(alloc);
     for at in 0..1 + id % 40 * 9 {
-        key.push(id.wrapping_mul(7).wrapping_add(at) as u8)?;
+        key.push((id.wrapping_mul(7).wrapping_add(at) % 256) as u8)?;
     }
     Ok(key)
 }
@@ -162,7 +162,7 @@ fn some_data(alloc: Global, dice: &mut Dice) -> Result<Vec<u8>, Fail> {
     let seed = dice.roll(256);
     let mut data = Vec::new(alloc);
     for at in 0..size {
-        data.push((at % 251).wrapping_add(seed) as u8)?;
+        data.push(((at % 251).wrapping_add(seed) % 256) as u8)?;
     }
     Ok(data)
 }
@@ -264,7 +264,47 @@ fn step(
     }
 }
 
-/// Runs so many steps in each of so many sessions over one disk. Answers how many were right.
+/// Makes so many calls, and answers how many were right before one that was not.
+fn calls(
+    alloc: Global,
+    kv: &mut Kv<'_, MemDisk>,
+    model: &mut Model,
+    dice: &mut Dice,
+    steps: usize,
+) -> Result<usize, Fail> {
+    let mut right = 0usize;
+    for _step in 0..steps {
+        if !step(alloc, kv, model, dice)? {
+            return Ok(right);
+        }
+        right = right.saturating_add(1);
+    }
+    Ok(right)
+}
+
+/// So many calls of a store over the disk, which is then closed or left.
+fn session(
+    alloc: Global,
+    disk: &mut MemDisk,
+    model: &mut Model,
+    dice: &mut Dice,
+    steps: usize,
+) -> Result<usize, Fail> {
+    let mut kv = Kv::open(alloc, disk, FEW)?;
+    let right = calls(alloc, &mut kv, model, dice, steps)?;
+    if dice.roll(2) == 0 {
+        let (answer, _disk) = kv.close();
+        answer?;
+        model.saved = copies_of(alloc, &model.present)?;
+    } else {
+        let _disk = kv.into_disk();
+        model.present = copies_of(alloc, &model.saved)?;
+    }
+    model.begun = false;
+    Ok(right)
+}
+
+/// So many sessions over one disk, with so many calls in each. Answers how many were right.
 fn run(alloc: Global, sessions: usize, steps: usize) -> Result<usize, Fail> {
     let mut disk = MemDisk::new(alloc, b"", b"", &[])?;
     let mut dice = Dice { state: 42 };
@@ -275,21 +315,7 @@ fn run(alloc: Global, sessions: usize, steps: usize) -> Result<usize, Fail> {
     };
     let mut right = 0usize;
     for _session in 0..sessions {
-        let mut kv = Kv::open(alloc, &mut disk, FEW)?;
-        for _step in 0..steps {
-            if !step(alloc, &mut kv, &mut model, &mut dice)? {
-                return Ok(right);
-            }
-            right = right.saturating_add(1);
-        }
-        if dice.roll(2) == 0 {
-            let (answer, _disk) = kv.close();
-            answer?;
-            model.saved = copies_of(alloc, &model.present)?;
-        } else {
-            model.present = copies_of(alloc, &model.saved)?;
-        }
-        model.begun = false;
+        right = right.saturating_add(session(alloc, &mut disk, &mut model, &mut dice, steps)?);
     }
     Ok(right)
 }
