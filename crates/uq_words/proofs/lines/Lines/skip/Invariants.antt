@@ -1,0 +1,14 @@
+use Rattle.std.proofs.Common.{◌<◌, ◌+◌, length}
+use Rattle.uq_words.specs.Lines.{HasNoFeed, longest}
+use Rattle.uq_words.specs.Taking.{Going, Passing, pending}
+use Rattle.uq_words.proofs.lines.Lines.skip.Given as goal
+
+abbrev pub decreases-pieces : goal.decreases-pieces
+decreases-pieces g l = l.self.room
+
+-- Where a line that is too long was at the front, it goes on up to here.
+abbrev pub invariant-pieces : goal.invariant-pieces
+invariant-pieces g l = record {
+  passing : HasNoFeed (pending l.fn.self) → longest + 1 < length (pending l.fn.self) → Passing g.I.Source l.fn.self l.fn.input l.self l.input;
+  going : Going g.I.Source l.fn.self l.fn.input l.self l.input;
+}

@@ -1,0 +1,5 @@
+use Rattle.std.proofs.Common.{◌≡◌, map, take}
+use Rattle.uq_words.proofs.options.copy_words.Given as goal
+
+abbrev pub invariant-loop-word : goal.invariant-loop-word
+invariant-loop-word l = map (λ word. word.items) l.list.items ≡ map (λ word. word.now) (take l.word-index l.words)

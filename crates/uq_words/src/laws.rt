@@ -1,0 +1,19 @@
+//! What holds of words and lines.
+ghost use Rattle.uq_words.specs.Lines.{LastIsAlone, LineIsFirst, PartIsAlone};
+ghost use Rattle.uq_words.specs.Words.{WordsAreSpelled};
+
+use uq_json::front_is_string;
+
+/// A line has the words of which it is made, with blanks between them, and no others.
+pub fn words_are_spelled()
+    ensures { WordsAreSpelled }
+{
+    front_is_string();
+}
+
+/// What is found at the front of an input of which so many bytes count are the lines of these bytes, one by one.
+pub fn lines_begin()
+    ensures line { LineIsFirst }
+    ensures last { LastIsAlone }
+    ensures part { PartIsAlone }
+{}
