@@ -65,8 +65,8 @@ fn a_line_is_cut_at_blanks_into_bare_words_and_strings(rt: HostRuntime) -> Resul
 fn words_are_counted_from_0(rt: HostRuntime) -> Result<(), Fail> {
     let words = read_words(rt.alloc(), b"a \"b c\"").map_err(|_| "words")?;
     assert_eq!(rt; words.len(), 2);
-    assert_eq!(rt; words.word(0), Some(b"a".as_slice()));
-    assert_eq!(rt; words.word(1), Some(b"b c".as_slice()));
+    assert_eq!(rt; words.word(0).expect(&rt, "a word"), b"a".as_slice());
+    assert_eq!(rt; words.word(1).expect(&rt, "a word"), b"b c".as_slice());
     assert!(rt; words.word(2).is_none());
     Ok(())
 }
