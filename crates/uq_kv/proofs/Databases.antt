@@ -1,5 +1,5 @@
 -- What pages are a database of.
-use Rattle.std.proofs.Common.{◌≡◌, ℕ, ◌≤◌, Bool, List, [], ◌∷◌, length, Option, Some, None, Vec, Global, inl, inr, ⊎_elim, refl, sym, ap, subst, ◌∙◌, arith}
+use Rattle.std.proofs.Common.{◌≡◌, ℕ, ◌≤◌, Bool, true, false, List, [], ◌∷◌, length, Option, Some, None, Vec, Global, inl, inr, ⊎_elim, refl, sym, ap, subst, ◌∙◌, arith}
 use Rattle.std.specs.Prelude.{sum_by, Result, Ok, Err, IfOk, IsSome, slice_get}
 use Rattle.std.specs.Option.{ForSome, option_map}
 use Rattle.std.specs.FinMap.{empty, entries, len, len-empty, len-entries}
@@ -13,6 +13,7 @@ use Rattle.uq_page.specs.Pages.{HasPagesCause}
 use Rattle.uq_hash.specs.Map.{HoldsMap, WhereHeld, bytes_in, Entry, entry_len}
 use Rattle.uq_kv.specs.Database.{HoldAll, HoldEntries, IsDatabase, IsEmpty, IsKept, WhereKept, WhereStored}
 use Rattle.uq_kv.specs.Stored.{IsWithinLimits, Stored}
+use Rattle.uq_kv.specs.Users.{key_where}
 use Rattle.uq_kv.specs.Writing.{HasStoreCause}
 
 no_entries : (es : List Entry) → length es ≡ 0 → es ≡ []
@@ -112,6 +113,21 @@ module _ {T U : Type 0} (result : Result T ChainFault) (answer : Result U ChainF
     no_page = λ is. cause.no_page (same_fault NoPage is);
   }
 
+-- and one that is found where no call of the pages has failed
+pub found_corrupt : {T : Type 0} (result : Result T ChainFault) (told : Option (List (List ℕ))) (header : Header) (before now : ℕ) (is_sound : Bool)
+    → result ≡ Err Corrupt → now ≡ before → is_sound ≡ true → WhereStored told header (λ _. ⊥) → HasStoreCause told header before now is_sound result
+found_corrupt {T} result told header before now is_sound corrupt count sound wrong = record {
+  pages = record {
+    later = omega (arith, count);
+    failed = λ is. let both : ◌≡◌ {A = Result T ChainFault} (Err Corrupt) (Err Failed) = sym corrupt ∙ is in absurd (cc);
+    quiet = λ other. count;
+    ended = λ is. let both : ◌≡◌ {A = Result T ChainFault} (Err Corrupt) (Err Failed) = sym corrupt ∙ is in absurd (cc);
+    sound = λ other. sound;
+  };
+  corrupt = λ is. wrong;
+  no_page = λ is. let both : ◌≡◌ {A = Result T ChainFault} (Err Corrupt) (Err NoPage) = sym corrupt ∙ is in absurd (cc);
+}
+
 -- behind calls that changed nothing
 pub cause_behind : {T : Type 0} (result : Result T ChainFault) (old mid : Option (List (List ℕ))) (header : Header) (before between now : ℕ) (is_sound : Bool)
     → mid ≡ old → between ≡ before → HasStoreCause mid header between now is_sound result → HasStoreCause old header before now is_sound result
@@ -135,3 +151,12 @@ none_len found got is same = ap (λ (o : Option (Vec ℕ Global)). option_map le
 pub no_some : {X : Type 0} (o : Option X) → IsSome o → ((x : X) → o ≡ Some x → ⊥) → ⊥
 no_some None is none = cc
 no_some (Some x) is none = none x refl
+
+-- a key that is there or not
+pub where_true : (there : Bool) (key found_key : List ℕ) → found_key ≡ key → true ≡ there → ◌≡◌ {A = Option (List ℕ)} (Some found_key) (key_where there key)
+where_true true key found_key same is = ap (λ (k : List ℕ). Some k) same
+where_true false key found_key same is = absurd (cc)
+
+pub where_false : (there : Bool) (key : List ℕ) → false ≡ there → ◌≡◌ {A = Option (List ℕ)} None (key_where there key)
+where_false true key is = absurd (cc)
+where_false false key is = refl

@@ -1,3 +1,4 @@
+mod Cursors
 mod Databases
 mod Faults
 mod Openings
@@ -7,3 +8,4 @@ mod Sessions
 mod Stops
 mod Sums
 mod Telling
+mod Walks

@@ -1,4 +1,5 @@
 pub mod Calls
+pub mod Cursor
 pub mod Database
 pub mod Faults
 pub mod Full
@@ -8,4 +9,5 @@ pub mod KvLaws
 pub mod Lengths
 pub mod Opening
 pub mod Stored
+pub mod Users
 pub mod Writing

@@ -1,5 +1,6 @@
 //! Why a call of a store was refused.
 ghost use Rattle.std.specs.Prelude.{◌≡◌};
+ghost use Rattle.uq_kv.specs.Calls.{is_stop};
 ghost use Rattle.uq_kv.specs.Faults.{open_fault};
 
 use thiserror::Error;
@@ -8,8 +9,8 @@ use uq_pager::PagerFault;
 
 /// Why a call of a store was refused.
 ///
-/// The first six are refusals by the call's own rules, and change nothing. `Disk`, `Corrupt` and `Memory` close the
-/// store: every later call answers `Closed` with the first of them.
+/// The first six are refusals by the call's own rules, and change nothing, but that they unset a cursor that was to
+/// move. `Disk`, `Corrupt` and `Memory` close the store: every later call answers `Closed` with the first of them.
 #[derive(Clone, Copy, Debug, PartialEq, Eq, Error)]
 pub enum KvFault {
     /// The key has no byte.
@@ -51,6 +52,24 @@ pub enum KvFault {
     /// There was no memory.
     #[error("out of memory")]
     Memory,
+}
+
+impl KvFault {
+    /// Whether it is a fault of what lies below, or that of a closed store, and no refusal by a call's own rules.
+    pub(crate) fn is_stop(self) -> bool
+        ensures { result ≡ is_stop self }
+    {
+        match self {
+            KvFault::EmptyKey
+            | KvFault::KeyTooLong
+            | KvFault::ValueTooLong
+            | KvFault::Full
+            | KvFault::NotFound
+            | KvFault::NoEntry => false,
+            KvFault::Disk | KvFault::Corrupt | KvFault::Closed { first: _ } | KvFault::Memory =>
+                true,
+        }
+    }
 }
 
 /// Why files could not be opened.

@@ -2,6 +2,9 @@
 #![tactic(auto)]
 
 mod closing;
+mod cursor;
+#[cfg(test)]
+mod cursor_tests;
 mod error;
 mod keys;
 mod kv;
@@ -14,8 +17,10 @@ mod space;
 #[cfg(test)]
 mod tests;
 mod transaction;
+mod walking;
 mod writing;
 
+pub use cursor::Cursor;
 pub use error::{KvFault, OpenFault};
 pub use kv::Kv;
 pub use limits::{MOST_KEY, MOST_VALUE};

@@ -1,0 +1,54 @@
+use Rattle.std.proofs.Common.{ℕ, List, Option, Some, None, Vec, Global, Err, refl, sym, ap, subst}
+use Rattle.std.specs.Prelude.{IfSome}
+use Rattle.std.specs.Option.{option_map}
+use Rattle.uq_kv.specs.Cursor.{NextFrom}
+use Rattle.uq_kv.specs.Users.{IsOfKeys, NextOf}
+use Rattle.uq_kv.proofs.Cursors.{no_answer, set_at, unset}
+use Rattle.uq_kv.proofs.Faults.{stopped}
+use Rattle.uq_kv.proofs.Stops.{saved_here, saved_kept}
+use Rattle.uq_kv.proofs.Telling.{tells_read, told_present}
+use Rattle.uq_kv.proofs.kv.Kv.next_entry.Goals as goal
+
+pub returns-in_default-clause-finds : goal.returns-in_default-clause-finds
+returns-in_default-clause-finds g c = λ s tells answered.
+    (tells, (None, subst (λ (at : Option (List ℕ)). NextFrom at s.present None) (sym (unset c.args.c.now c.in_default.not-Some)) refl, refl))
+
+pub returns-in_default-clause-stop : goal.returns-in_default-clause-stop
+returns-in_default-clause-stop g c = λ s tells. saved_here g.D.Disk c.args.self.now s tells (record { only_now = g.met.D.Disk.only_now; counts_now = g.met.D.Disk.counts_now })
+
+pub returns-in-Ok-Some-clause-finds : goal.returns-in-Ok-Some-clause-finds
+returns-in-Ok-Some-clause-finds g c = λ s tells answered.
+    let found = subst (λ (o : Option (Vec ℕ Global)). NextOf c.deref.result.now s.present (option_map (λ (key : Vec ℕ Global). key.items) o)) c.in-Ok-Some.field-0-is (c.in-Ok-Some.ensures.found tells.pages.present (told_present g.D.Disk c.args.self.now.pager tells.pages tells.told) s.present tells.present) in
+    let at = set_at c.args.c.now c.in-Some.stored c.deref.result.now c.in-Some.is c.deref.ensures.value in
+    ((tells_read g.D.Disk c.args.self.now _ s tells c.in-Ok-Some.ensures.reads (c.in-Ok-Some.ensures.cause.pages.sound (λ i. cc)) tells.unclosed refl refl), (Some c.in-Ok-Some.found.items, subst (λ (o : Option (List ℕ)). NextFrom o s.present (Some c.in-Ok-Some.found.items)) (sym at) found, rw c.in-Ok-Some.field-0-is refl))
+
+pub returns-in-Ok-Some-clause-users : goal.returns-in-Ok-Some-clause-users
+returns-in-Ok-Some-clause-users g c = rw c.in-Ok-Some.field-0-is (subst (λ (o : Option (Vec ℕ Global)). IfSome o (λ (key : Vec ℕ Global). IsOfKeys key.items)) c.in-Ok-Some.field-0-is c.in-Ok-Some.ensures.users)
+
+pub returns-in-Ok-Some-clause-stop : goal.returns-in-Ok-Some-clause-stop
+returns-in-Ok-Some-clause-stop g c = λ s tells. saved_kept g.D.Disk c.args.self.now s tells c.key_behind.new.p.disk c.in-Ok-Some.ensures.reads.keeps.disk
+
+pub returns-in-Ok-None-clause-finds : goal.returns-in-Ok-None-clause-finds
+returns-in-Ok-None-clause-finds g c = λ s tells answered.
+    let found = subst (λ (o : Option (Vec ℕ Global)). NextOf c.deref.result.now s.present (option_map (λ (key : Vec ℕ Global). key.items) o)) c.in-Ok-None.field-0-is (c.in-Ok-None.ensures.found tells.pages.present (told_present g.D.Disk c.args.self.now.pager tells.pages tells.told) s.present tells.present) in
+    let at = set_at c.args.c.now c.in-Some.stored c.deref.result.now c.in-Some.is c.deref.ensures.value in
+    ((tells_read g.D.Disk c.args.self.now _ s tells c.in-Ok-None.ensures.reads (c.in-Ok-None.ensures.cause.pages.sound (λ i. cc)) tells.unclosed refl refl), (None, subst (λ (o : Option (List ℕ)). NextFrom o s.present None) (sym at) found, refl))
+
+pub returns-in-Ok-None-clause-stop : goal.returns-in-Ok-None-clause-stop
+returns-in-Ok-None-clause-stop g c = λ s tells. saved_kept g.D.Disk c.args.self.now s tells c.key_behind.new.p.disk c.in-Ok-None.ensures.reads.keeps.disk
+
+pub returns-in-Err-clause-stop : goal.returns-in-Err-clause-stop
+returns-in-Err-clause-stop g c = λ s tells. saved_kept g.D.Disk c.args.self.now s tells c.key_behind.new.p.disk c.in-Err.ensures.reads.keeps.disk
+
+pub returns-in-Err-clause-cause : goal.returns-in-Err-clause-cause
+returns-in-Err-clause-cause g c =
+    stopped g.D.Disk c.args.self.now _ _ c.key_behind.result (Err c.close_by.result) (c.in_ok-check_open.ensures.open.0 refl) c.key_behind.ensures.cause
+    c.in-Err.fault c.in-Err.is (ap Err c.close_by.ensures.fault) c.close_by.ensures.closed
+
+pub returns-in_err-check_open-clause-finds : goal.returns-in_err-check_open-clause-finds
+returns-in_err-check_open-clause-finds g c = λ s tells answered.
+    let was = c.in_err-check_open.ensures.closed.1 in
+    let unclosed = tells.unclosed in absurd (cc)
+
+pub returns-in-Err-clause-finds : goal.returns-in-Err-clause-finds
+returns-in-Err-clause-finds g c = λ s tells answered. absurd (no_answer {T = Vec ℕ Global} (Err c.close_by.result) c.in-Err.fault (ap Err c.close_by.ensures.fault) answered)
