@@ -1,0 +1,14 @@
+pub mod Reading
+pub mod Chains
+pub mod Expressions
+pub mod Statements
+pub mod Rooms
+pub mod Items
+pub mod Keywords
+pub mod Blames
+pub mod Answers
+pub mod Spots
+pub mod Levels
+pub mod OneOf
+pub mod Deeper
+pub mod Pieces
