@@ -3,7 +3,7 @@ use Rattle.std.proofs.Common.{◌≡◌, ℕ, zero, suc, ◌+◌, List, [], ◌�
 use Rattle.std.proofs.lemmas.List.{append-nil}
 use Rattle.std.proofs.Math.Seq.{take-append-add}
 use Rattle.uq_outside.specs.Streams.{Grows, PutAppends}
-use Rattle.uq_shell.specs.Line.{last_byte}
+use Rattle.uq_shell.specs.Line.{last_byte, line_after, owed_feed}
 
 pub grows_on : (a b : List ℕ) (x y z : Option (List ℕ)) → Grows a x y → Grows b y z → Grows (a ++ b) x z
 grows_on a b None None None first second = tt
@@ -42,3 +42,8 @@ pub last_byte-append : (bytes : List ℕ) (byte : ℕ) → last_byte (bytes ++ b
 last_byte-append [] byte = refl
 last_byte-append (x ∷ []) byte = refl
 last_byte-append (x ∷ y ∷ bytes) byte = last_byte-append (y ∷ bytes) byte
+
+-- whatever it stands behind
+pub line_ends : (before : List ℕ) (last : Option ℕ) (text : List ℕ) → last_byte (before ++ line_after last text) ≡ Some 0x0a
+line_ends before last text =
+    ap last_byte (sym (append_assoc before (owed_feed last ++ text) (0x0a ∷ []))) ∙ last_byte-append (before ++ (owed_feed last ++ text)) 0x0a

@@ -1,125 +1,137 @@
 -- The end of the input behind the events that are done: a commit that is done, one that failed, or none to make.
-use Rattle.std.proofs.Common.{◌≡◌, ℕ, ◌+◌, Bool, true, false, if◌then◌else◌, List, [], ◌∷◌, ◌++◌, length, Option, Some, None, inl, inr, refl, sym, ap, subst, ◌∙◌, arith, length-append}
-use Rattle.std.proofs.lemmas.List.{append-nil}
+use Rattle.std.proofs.Common.{◌≡◌, ◌≤◌, ℕ, ◌+◌, Bool, true, false, if◌then◌else◌, List, [], ◌∷◌, ◌++◌, length, take, Some, inl, inr, refl, sym, ap, subst, ◌∙◌, arith, length-append}
+use Rattle.std.proofs.lemmas.List.{take_all, take_at}
+use Rattle.std.specs.Prelude.{slice_get}
 use Rattle.std.specs.List.{flat_map}
 use Rattle.uq_outside.specs.declared.disk.Disk as disk
 use Rattle.uq_outside.specs.declared.sink.Sink as sink
 use Rattle.uq_outside.specs.Files.{Files}
 use Rattle.uq_outside.specs.Since.{Laws, LeavesOnly}
-use Rattle.uq_outside.specs.SinceLaws.{at_end}
-use Rattle.uq_model.specs.Session.{Session}
-use Rattle.uq_kv.specs.Holds.{LeavesNow, RecoversTo, RecoversToEither}
+use Rattle.uq_outside.specs.SinceLaws.{at_end, goes_on, weaker}
+use Rattle.uq_outside.specs.Streams.{Grows}
+use Rattle.uq_model.specs.Session.{Session, committed, opened}
+use Rattle.uq_kv.specs.Holds.{Holds, LeavesNow, RecoversTo, RecoversToEither}
+use Rattle.uq_kv.specs.Kv.{Tells, disk_of}
+use Rattle.uq_kv.specs.KvLaws.{holds_saved}
 use Rattle.uq_kv.specs.Stored.{Stored}
-use Rattle.uq_shell.specs.Ends.{AreDone, Ends, Writes}
-use Rattle.uq_shell.specs.Events.{Event, Out, Commit, bytes_of, output}
-use Rattle.uq_shell.specs.Followed.{ending_line, some_line}
-use Rattle.uq_shell.specs.Headline.{IsQuiet}
-use Rattle.uq_shell.specs.Line.{last_byte, line_after}
-use Rattle.uq_shell.specs.Run.{Outcome, ended_with}
-use Rattle.uq_shell.specs.Statuses.{row, status_of}
+use Rattle.uq_kv.specs.declared.kv.Kv.{Kv}
+use Rattle.uq_shell.specs.Ends.{Ends}
+use Rattle.uq_shell.specs.Events.{Event, Commit, IsSavedIn, bytes_of, last_commit, output}
+use Rattle.uq_shell.specs.Followed.{FollowedFiles, Last, RecoversIn, UnderWay}
+use Rattle.uq_shell.specs.Line.{last_byte}
+use Rattle.uq_shell.specs.Obeys.{commits_before}
+use Rattle.uq_shell.specs.Reached.{CutShort, Reached}
+use Rattle.uq_shell.specs.Statuses.{status_of}
+use Rattle.uq_shell.specs.Stream.{State, at_end as ended_at}
+use Rattle.uq_shell.specs.declared.progress.Progress.{Progress}
+use Rattle.uq_shell.specs.declared.progress.Stop.TheVariants.{At}
 use Rattle.uq_shell.specs.declared.status.Status.TheVariants.{Disk}
-use Rattle.uq_shell.proofs.Doing.{output_done, taken}
-use Rattle.uq_shell.proofs.Lines.{last_byte-append}
-use Rattle.uq_shell.proofs.Meeting.{meets_done, meets_ended}
-use Rattle.uq_shell.proofs.Settling.{begun_after, begun_before, begun_cut, idle_after, idle_before}
+use Rattle.uq_shell.proofs.Doing.{commit_in, event_next, half_last, output_done, saved_last, saved_more, saved_next, silent}
+use Rattle.uq_shell.proofs.Meeting.{meets_whole}
 
--- a commit puts nothing out
-silent : (before : List Event) (p : Stored) → flat_map bytes_of (before ++ Commit p ∷ []) ≡ flat_map bytes_of before
-silent [] p = refl
-silent (event ∷ before) p = ap (λ (l : List ℕ). bytes_of event ++ l) (silent before p)
+commit_count : (before : List Event) (b : Bool) (next : Stored) → length (before ++ commit_in b next) ≡ length before + commits_before b
+commit_count before true next = length-append before (Commit next ∷ [])
+commit_count before false next = length-append before []
 
-same_output : (before : List Event) (p : Stored) (n m : ℕ) → length before ≡ n → m ≡ n + 1 → output m (before ++ Commit p ∷ []) ≡ output n (before ++ Commit p ∷ [])
-same_output before p n m count is =
-    ap (λ (i : ℕ). output i (before ++ Commit p ∷ [])) is ∙ ap (flat_map bytes_of) (taken before (Commit p ∷ []) n 1 count)
-    ∙ silent before p ∙ sym (output_done before (Commit p ∷ []) n count)
+commit_saved : (entry : Stored) (before : List Event) (b : Bool) (next : Stored) → IsSavedIn entry (before ++ commit_in b next) (if b then next else last_commit entry before)
+commit_saved entry before true next = saved_next entry next before []
+commit_saved entry before false next = saved_last entry before []
 
-module _ {D O : Type 0} (g : disk.Ghosts D) (o : sink.Ghosts O) (entry : Stored) (before : List Event) (s : Session Stored) (n : ℕ) (done : AreDone before n entry s.saved) (old new : D) (is_refusal : Bool) where
-  -- the commit is done
-  pub settled_begun : (m : ℕ) (x : O) → s.begun ≡ true → m ≡ n + 1 → LeavesOnly g old new (RecoversToEither s.saved s.present) → LeavesNow g new s.present
-      → Ends g o entry (ended_with before s is_refusal) n old new x x (record { status = status_of is_refusal; done = m })
-  settled_begun m x begun is stop now =
-      let events : List Event = before ++ Commit s.present ∷ [] in
-      let run : Outcome = record { events = events; status = status_of is_refusal } in
-      let all : m ≡ length events = is ∙ ap (λ (i : ℕ). i + 1) (sym done.count) ∙ sym (length-append before (Commit s.present ∷ [])) in
-      let same : ended_with before s is_refusal ≡ run
-      = ap (λ (b : Bool). record { events = before ++ (if b then Commit s.present ∷ [] else []); status = status_of is_refusal }) begun in
-      subst (λ (r : Outcome). Ends g o entry r n old new x x (record { status = status_of is_refusal; done = m })) (sym same) (record {
-        meets = meets_done o run n m x is_refusal (same_output before s.present n m done.count is) refl all;
+-- with none begun, what is there is what was saved
+there : (entry : Stored) (before : List Event) (s : Session Stored) → last_commit entry before ≡ s.saved → (b : Bool) → (b ≡ false → s.present ≡ s.saved) → (if b then s.present else last_commit entry before) ≡ s.present
+there entry before s last true idle = refl
+there entry before s last false idle = last ∙ sym (idle refl)
+
+committed_is : (b : Bool) (s : Session Stored) → (b ≡ false → s.present ≡ s.saved) → (if b then opened s.present else s).saved ≡ s.present
+committed_is true s idle = refl
+committed_is false s idle = sym (idle refl)
+
+module _ {D O : Type 0} (g : disk.Ghosts D) (o : sink.Ghosts O) (entry : Stored) (state : State) (at : Progress) (disk_first : D) (old new : Kv D g) (x0 x : O)
+    (reached : Reached g o entry state at disk_first old x0 x)
+    (stop : LeavesOnly g (disk_of g old).now (disk_of g new).now (RecoversToEither state.session.saved state.session.present)) where
+  abbrev events : List Event
+  events = state.events ++ commit_in state.session.begun state.session.present
+
+  present_is : (if state.session.begun then state.session.present else last_commit entry state.events) ≡ state.session.present
+  present_is = there entry state.events state.session reached.saved state.session.begun reached.tells.idle
+
+  count_is : length events ≡ at.done + commits_before state.session.begun
+  count_is =
+      let count = commit_count state.events state.session.begun state.session.present in
+      let done = reached.done in
+      omega arith
+
+  before_in : (files : Files) → RecoversIn entry state.events files → RecoversIn entry events files
+  before_in files is = record {
+    stored = is.stored;
+    saved = saved_more entry is.stored state.events (commit_in state.session.begun state.session.present) is.saved;
+    recovers = is.recovers;
+  }
+
+  either_in : (files : Files) → RecoversToEither state.session.saved state.session.present files → RecoversIn entry events files
+  either_in files (inl was) =
+      let P : Stored → Type 0 = λ it. IsSavedIn entry events it in
+      record { stored = state.session.saved; saved = subst P reached.saved (saved_last entry state.events (commit_in state.session.begun state.session.present)); recovers = was }
+  either_in files (inr now) =
+      let P : Stored → Type 0 = λ it. IsSavedIn entry events it in
+      record { stored = state.session.present; saved = subst P present_is (commit_saved entry state.events state.session.begun state.session.present); recovers = now }
+
+  moments : (n : ℕ) → length events ≤ n → LeavesOnly g disk_first (disk_of g new).now (RecoversIn entry (take n events))
+  moments n all = subst (λ (l : List Event). LeavesOnly g disk_first (disk_of g new).now (RecoversIn entry l)) (sym (take_all n events all))
+      (goes_on g (RecoversIn entry events) disk_first (disk_of g old).now (disk_of g new).now
+      (weaker g (RecoversIn entry state.events) (RecoversIn entry events) disk_first (disk_of g old).now before_in reached.stop)
+      (weaker g (RecoversToEither state.session.saved state.session.present) (RecoversIn entry events) (disk_of g old).now (disk_of g new).now either_in stop))
+
+  -- what is begun is committed
+  pub settled : (source_rose : Type 0) (n : ℕ) → n ≡ at.done + commits_before state.session.begun → Tells g new (committed state.session) → LeavesNow g (disk_of g new).now state.session.present
+      → Ends g o entry (ended_at state) source_rose disk_first (disk_of g new).now x0 x (record { status = status_of state.is_refused; done = n })
+  settled source_rose n is tells now =
+      let count = count_is in
+      let whole : take n events ≡ events = take_all n events (omega arith) in
+      let put : output n events ≡ flat_map bytes_of state.events = ap (flat_map bytes_of) whole ∙ silent state.events state.session.begun state.session.present in
+      let last : state.session.present ≡ last_commit entry (take n events)
+      = sym (ap (last_commit entry) whole ∙ half_last entry state.events state.session.begun state.session.present ∙ present_is) in
+      let saved : (committed state.session).saved ≡ last_commit entry (take n events) = committed_is state.session.begun state.session reached.tells.idle ∙ last in
+      record {
+        meets = meets_whole o x0 x (ended_at state) source_rose n state.is_refused (subst (λ (l : List ℕ). Grows l (o.written x0) (o.written x)) (sym put) reached.written) refl (is ∙ sym count);
         recovers = record {
-          any_moment = begun_before entry s.saved s.present before n done.count done.last_commit g old new 1 m is stop;
-          at_exit = begun_after entry s.saved s.present before n done.count done.last_commit g old new m is now;
+          any_moment = moments (n + 1) (omega arith);
+          at_exit = λ files may. record { stored = state.session.present; acknowledged = Last last; recovers = now files may };
         };
-        complete = λ _. inl refl;
-      })
+        holds = λ _. subst (λ (it : Stored). Holds g (disk_of g new).now it) saved (holds_saved g new (committed state.session) tells);
+        complete = λ _ _. inl refl;
+      }
 
-  -- there is none to make
-  pub settled_idle : (x : O) → s.begun ≡ false → s.present ≡ s.saved → LeavesOnly g old new (RecoversToEither s.saved s.present) → LeavesNow g new s.saved
-      → Ends g o entry (ended_with before s is_refusal) n old new x x (record { status = status_of is_refusal; done = n })
-  settled_idle x begun idle stop now =
-      let run : Outcome = record { events = before ++ []; status = status_of is_refusal } in
-      let all : n ≡ length (before ++ []) = sym done.count ∙ ap length (sym (append-nil before)) in
-      let same : ended_with before s is_refusal ≡ run
-      = ap (λ (b : Bool). record { events = before ++ (if b then Commit s.present ∷ [] else []); status = status_of is_refusal }) begun in
-      subst (λ (r : Outcome). Ends g o entry r n old new x x (record { status = status_of is_refusal; done = n })) (sym same) (record {
-        meets = meets_done o run n n x is_refusal refl refl all;
-        recovers = record {
-          any_moment = idle_before entry s.saved s.present before n done.count done.last_commit g old new idle stop;
-          at_exit = idle_after entry s.saved s.present before n done.count done.last_commit g old new now;
-        };
-        complete = λ _. inl refl;
-      })
+  was_last : state.session.saved ≡ last_commit entry (take at.done events)
+  was_last = sym reached.saved ∙ sym (ap (last_commit entry) (take_at state.events (commit_in state.session.begun state.session.present) at.done reached.done))
 
-  -- the commit failed, and the line of that was put out
-  pub settled_cut : (laws : Laws g) (x z : O) → s.begun ≡ true → LeavesOnly g old new (RecoversToEither s.saved s.present)
-      → Writes o (some_line (Some 0x0a) (row Disk).text) x z → (IsQuiet g o old new x z → ⊥)
-      → Ends g o entry (ended_with before s is_refusal) n old new x z (record { status = Disk; done = n })
-  settled_cut laws x z begun stop line loud =
-      let events : List Event = before ++ Commit s.present ∷ [] in
-      let run : Outcome = record { events = events; status = status_of is_refusal } in
-      let same : ended_with before s is_refusal ≡ run
-      = ap (λ (b : Bool). record { events = before ++ (if b then Commit s.present ∷ [] else []); status = status_of is_refusal }) begun in
-      let fresh : ending_line (output n events) Disk ≡ some_line (Some 0x0a) (row Disk).text
-      = ap (λ (last : Option ℕ). some_line last (row Disk).text) (ap last_byte (output_done before (Commit s.present ∷ []) n done.count) ∙ done.ends_line) in
-      subst (λ (r : Outcome). Ends g o entry r n old new x z (record { status = Disk; done = n })) (sym same) (record {
-        meets = meets_ended o run n x z Disk (subst (λ (l : List ℕ). Writes o l x z) (sym fresh) line) (λ whole. cc) (λ is. cc);
-        recovers = record {
-          any_moment = begun_before entry s.saved s.present before n done.count done.last_commit g old new 0 n (omega arith) stop;
-          at_exit = begun_cut entry s.saved s.present before n done.count done.last_commit g old new (at_end g (RecoversToEither s.saved s.present) laws.counts_now old new stop);
-        };
-        complete = λ quiet. absurd (loud quiet);
-      })
+  exit_either : (files : Files) → RecoversToEither state.session.saved state.session.present files → (b : Bool) → state.session.begun ≡ b → FollowedFiles entry events at.done files
+  exit_either files (inl was) b is = record { stored = state.session.saved; acknowledged = Last was_last; recovers = was }
+  exit_either files (inr now) true is =
+      let under_way = subst (λ (b : Bool). slice_get (state.events ++ commit_in b state.session.present) at.done ≡ Some (Commit state.session.present)) (sym is)
+      (event_next state.events [] (Commit state.session.present) at.done reached.done) in
+      record { stored = state.session.present; acknowledged = UnderWay under_way; recovers = now }
+  exit_either files (inr now) false is =
+      record { stored = state.session.saved; acknowledged = Last was_last; recovers = subst (λ (it : Stored). RecoversTo it files) (reached.tells.idle is) now }
 
-  -- a call failed, though there is none to make
-  pub settled_cut_idle : (laws : Laws g) (x z : O) → s.begun ≡ false → s.present ≡ s.saved → LeavesOnly g old new (RecoversToEither s.saved s.present)
-      → Writes o (some_line (Some 0x0a) (row Disk).text) x z → (IsQuiet g o old new x z → ⊥)
-      → Ends g o entry (ended_with before s is_refusal) n old new x z (record { status = Disk; done = n })
-  settled_cut_idle laws x z begun idle stop line loud =
-      let events : List Event = before ++ [] in
-      let run : Outcome = record { events = events; status = status_of is_refusal } in
-      let same : ended_with before s is_refusal ≡ run
-      = ap (λ (b : Bool). record { events = before ++ (if b then Commit s.present ∷ [] else []); status = status_of is_refusal }) begun in
-      let fresh : ending_line (output n events) Disk ≡ some_line (Some 0x0a) (row Disk).text
-      = ap (λ (last : Option ℕ). some_line last (row Disk).text) (ap last_byte (output_done before [] n done.count) ∙ done.ends_line) in
-      subst (λ (r : Outcome). Ends g o entry r n old new x z (record { status = Disk; done = n })) (sym same) (record {
-        meets = meets_ended o run n x z Disk (subst (λ (l : List ℕ). Writes o l x z) (sym fresh) line) (λ whole. cc) (λ is. cc);
-        recovers = record {
-          any_moment = idle_before entry s.saved s.present before n done.count done.last_commit g old new idle stop;
-          at_exit = idle_after entry s.saved s.present before n done.count done.last_commit g old new saved_only;
-        };
-        complete = λ quiet. absurd (loud quiet);
-      })
+  -- the commit failed
+  pub settled_cut : Laws g → CutShort g o entry events (At Disk) at disk_first new x0 x
+  settled_cut laws =
+      let count = count_is in
+      let few : commits_before state.session.begun ≤ 1 = one state.session.begun in
+      let put : output at.done events ≡ flat_map bytes_of state.events = output_done state.events (commit_in state.session.begun state.session.present) at.done reached.done in
+      record {
+        inside = omega arith;
+        any_moment = moments (at.done + 1) (omega arith);
+        at_exit = λ files may.
+            exit_either files (at_end g (RecoversToEither state.session.saved state.session.present) laws.counts_now (disk_of g old).now (disk_of g new).now stop files may) state.session.begun refl;
+        written = λ _ _. subst (λ (l : List ℕ). Grows l (o.written x0) (o.written x)) (sym put) reached.written;
+        last = λ _ _. ap last_byte put ∙ reached.last;
+        quiet = λ _ _. reached.quiet;
+        part = λ is. absurd (cc);
+        tells = λ answered. absurd (cc);
+      }
     where
-      one : (files : Files) → RecoversToEither s.saved s.present files → RecoversTo s.saved files
-      one files (inl was) = was
-      one files (inr now) = subst (λ (it : Stored). RecoversTo it files) idle now
-
-      saved_only : LeavesNow g new s.saved
-      saved_only files left = one files (at_end g (RecoversToEither s.saved s.present) laws.counts_now old new stop files left)
-
--- the first reply is done, and its line ends
-pub first_done : (text : List ℕ) (saved : Stored) → AreDone (Out (line_after None text) ∷ []) 1 saved saved
-first_done text saved = record {
-  count = refl;
-  last_commit = refl;
-  ends_line = ap last_byte (append-nil (line_after None text)) ∙ last_byte-append text 0x0a;
-}
+      one : (b : Bool) → commits_before b ≤ 1
+      one true = omega arith
+      one false = omega arith

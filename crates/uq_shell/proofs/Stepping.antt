@@ -120,6 +120,7 @@ module _ {D : Type 0} (g : Ghosts D) (old new : Kv D g) where
       → Leaves g asked old new result
   leaves asked say outcome (Ok answer) says unclosed keeps causes stop still idle kept = record {
     same_reference = keeps.same_reference;
+    limits = keeps.limits;
     stop = stop;
     still = still;
     kept = kept;
@@ -131,6 +132,7 @@ module _ {D : Type 0} (g : Ghosts D) (old new : Kv D g) where
   }
   leaves asked say outcome (Err status) says unclosed keeps causes stop still idle kept = record {
     same_reference = keeps.same_reference;
+    limits = keeps.limits;
     stop = stop;
     still = still;
     kept = kept;
@@ -161,6 +163,7 @@ module _ {D : Type 0} (g : Ghosts D) (old new : Kv D g) where
 pub leaves_refused : {D : Type 0} (g : Ghosts D) (laws : Laws g) (it : Kv D g) (refusal : Refusal) (answer : Answer) → Leaves g {T = Answer} (refuses_words refusal) it it (Ok answer)
 leaves_refused g laws it refusal answer = record {
   same_reference = refl;
+  limits = refl;
   stop = λ s tells.
       let holds = holds_saved g it s tells in
       started g (RecoversToEither s.saved s.saved) laws.only_now (disk_of g it).now (λ files may. inl (subst (RecoversTo s.saved) (sym (holds.settled files may)) holds.recovers));

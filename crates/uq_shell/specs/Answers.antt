@@ -9,23 +9,38 @@ use Rattle.uq_kv.specs.declared.kv.Kv.{Kv}
 use Rattle.uq_kv.specs.Holds.{RecoversToEither}
 use Rattle.uq_kv.specs.Kv.{Tells, disk_of, is_begun_of, limits_of}
 use Rattle.uq_kv.specs.Stored.{Stored}
-use Rattle.uq_shell.specs.Commands.{Request, begins_one, commits_one, fetches_key, reading, refuses_words, rolls_back_one, stores_key, writing}
+use Rattle.uq_shell.specs.Commands.{Form, NoWord, OneWord, TwoWords, Request, reading, refuses_words, writing}
+use Rattle.uq_shell.specs.Commands.{appends_key, begins_one, commits_one, deletes_key, fetches_key, rolls_back_one, stores_key}
 use Rattle.uq_kv.specs.declared.error.KvFault.{KvFault}
 use Rattle.uq_shell.specs.Replies.{Said, refuses, said_in, taken_as}
 use Rattle.uq_shell.specs.declared.reply.Refusal.{Refusal}
 use Rattle.uq_shell.specs.declared.answering.Answer.{Answer}
 use Rattle.uq_shell.specs.declared.command.Command.{Command}
-use Rattle.uq_shell.specs.declared.command.Command.TheVariants.{Store, Fetch, Begin, Commit, Rollback, Refused}
+use Rattle.uq_shell.specs.declared.command.Command.TheVariants.{Store, Append, Fetch, Delete, Begin, Commit, Rollback, Refused}
+use Rattle.uq_shell.specs.declared.command.Verb.{Verb}
+use Rattle.uq_shell.specs.declared.command.Verb.TheVariants as verb
 use Rattle.uq_shell.specs.declared.status.Status.{Status}
 use Rattle.uq_shell.specs.declared.status.Status.TheVariants.{Disk, NotDatabase, Memory}
 
 abbrev pub request_of : Command → Request
 request_of (Store key value) = writing (stores_key key.now value.now)
+request_of (Append key more) = writing (appends_key key.now more.now)
 request_of (Fetch key) = reading (fetches_key key.now)
+request_of (Delete key) = writing (deletes_key key.now)
 request_of Begin = writing begins_one
 request_of Commit = writing commits_one
 request_of Rollback = reading rolls_back_one
 request_of (Refused refusal) = refuses_words refusal
+
+-- a command without its words
+abbrev pub form_of : Verb → Form
+form_of verb.Store = TwoWords (λ key value. writing (stores_key key value))
+form_of verb.Append = TwoWords (λ key more. writing (appends_key key more))
+form_of verb.Fetch = OneWord (λ key. reading (fetches_key key))
+form_of verb.Delete = OneWord (λ key. writing (deletes_key key))
+form_of verb.Begin = NoWord (writing begins_one)
+form_of verb.Commit = NoWord (writing commits_one)
+form_of verb.Rollback = NoWord (reading rolls_back_one)
 
 -- ---- what is said of an answer of the store
 
@@ -70,6 +85,7 @@ module _ {D : Type 0} (g : Ghosts D) where
   -- what a command leaves, whatever it answers
   pub record Leaves {T : Type 0} (asked : Request) (old new : Kv D g) (result : Result T Status) : Type 0 where
     pub same_reference : (disk_of g new).ghost_name ≡ (disk_of g old).ghost_name
+    pub limits : limits_of g new ≡ limits_of g old
     pub stop : LeavesEither asked old new
     -- what writes nothing leaves the disk as it is, and what begins a transaction what the files recover to
     pub still : asked.writes ≡ false → IsStill g (disk_of g old).now (disk_of g new).now

@@ -1,10 +1,10 @@
 -- The commands: a table of their names and forms, and what each means over a session.
-use Rattle.std.specs.Prelude.{ℕ, Bool, true, false, bytes_eq, if◌then◌else◌, List, [], ◌∷◌, ◌++◌, Option, Result, Ok, Err}
+use Rattle.std.specs.Prelude.{ℕ, Bool, true, false, bytes_eq, if◌then◌else◌, List, [], ◌∷◌, ◌++◌, Option, Some, None, Result, Ok, Err}
 use Rattle.uq_json.specs.Quote.{quoted}
 use Rattle.std.specs.Prelude.{codes}
 use Rattle.uq_model.specs.Session.{Call, Session, begun, committed, rolled_back}
 use Rattle.uq_model.specs.declared.limits.Limits.{Limits}
-use Rattle.uq_kv.specs.Calls.{fetches, stores}
+use Rattle.uq_kv.specs.Calls.{appends, deletes, fetches, stores}
 use Rattle.uq_kv.specs.Stored.{Stored}
 use Rattle.uq_kv.specs.declared.error.KvFault.{KvFault}
 use Rattle.uq_kv.specs.declared.space.Space.TheVariants.{Keys}
@@ -46,9 +46,15 @@ saying say call s = (said_at say (call s).0, (call s).1)
 abbrev pub stores_key : List ℕ → List ℕ → Limits → Call Stored Said
 stores_key key value limits = saying (λ _. says_ok) (stores limits Keys key value)
 
+abbrev pub appends_key : List ℕ → List ℕ → Limits → Call Stored Said
+appends_key key more limits = saying (λ _. says_ok) (appends limits Keys key more)
+
 -- the data, as a JSON string
 abbrev pub fetches_key : List ℕ → Limits → Call Stored Said
 fetches_key key limits = saying (λ found. says (quoted found)) (fetches Keys key)
+
+abbrev pub deletes_key : List ℕ → Limits → Call Stored Said
+deletes_key key limits = saying (λ _. says_ok) (deletes Keys key)
 
 abbrev pub begins_one : Limits → Call Stored Said
 begins_one limits s = (says_ok, begun s)
@@ -82,7 +88,9 @@ row_of name form = record { name = name; form = form }
 abbrev pub commands : List Row
 commands =
     row_of (codes "store") (TwoWords (λ key value. writing (stores_key key value)))
+    ∷ row_of (codes "append") (TwoWords (λ key more. writing (appends_key key more)))
     ∷ row_of (codes "fetch") (OneWord (λ key. reading (fetches_key key)))
+    ∷ row_of (codes "delete") (OneWord (λ key. writing (deletes_key key)))
     ∷ row_of (codes "begin") (NoWord (writing begins_one))
     ∷ row_of (codes "commit") (NoWord (writing commits_one))
     ∷ row_of (codes "rollback") (NoWord (reading rolls_back_one))
@@ -95,15 +103,20 @@ filled (OneWord request) (word ∷ []) = request word
 filled (TwoWords request) (word ∷ next ∷ []) = request word next
 filled form words = refuses_words BadCommand
 
--- words behind a name, in the form of its row
-abbrev pub request_in : List Row → List ℕ → List (List ℕ) → Request
-request_in [] name words = refuses_words UnknownCommand
-request_in (first ∷ rest) name words = if bytes_eq name first.name then filled first.form words else request_in rest name words
+-- the form of the row with this name, where there is one
+abbrev pub form_named : List Row → List ℕ → Option Form
+form_named [] name = None
+form_named (first ∷ rest) name = if bytes_eq name first.name then Some first.form else form_named rest name
+
+-- words behind a name, in its form
+abbrev pub filled_by : Option Form → List (List ℕ) → Request
+filled_by None words = refuses_words UnknownCommand
+filled_by (Some form) words = filled form words
 
 -- a name and its words; no word at all is refused
 abbrev pub request : List (List ℕ) → Request
 request [] = refuses_words BadCommand
-request (name ∷ words) = request_in commands name words
+request (name ∷ words) = filled_by (form_named commands name) words
 
 -- ---- events
 

@@ -26,15 +26,16 @@ pub record IsCutWithin (events : List Event) (n : ℕ) (status : Status) (bytes 
   pub count : ℕ
   pub prefix : bytes ≡ output n events ++ take count event
 
--- the sink failed in the ending line
-pub record IsCutBehind (events : List Event) (n : ℕ) (status : Status) (bytes : List ℕ) : Type 0 where
+-- The sink failed in the ending line. That of `Stream` is the source's, and stands only where that failed.
+pub record IsCutBehind (events : List Event) (n : ℕ) (status : Status) (source_rose : Type 0) (bytes : List ℕ) : Type 0 where
   pub count : ℕ
   pub prefix : bytes ≡ output n events ++ take count (ending_line (output n events) status)
+  pub source : status ≡ Stream → source_rose
 
 -- What was written is what the first n events and the status write, or, where the sink failed, a prefix of it.
-pub record FollowedBytes (events : List Event) (n : ℕ) (status : Status) (sink_rose : Type 0) (bytes : List ℕ) : Type 0 where
+pub record FollowedBytes (events : List Event) (n : ℕ) (status : Status) (source_rose sink_rose : Type 0) (bytes : List ℕ) : Type 0 where
   pub whole : (sink_rose → ⊥) → bytes ≡ output n events ++ ending_line (output n events) status
-  pub cut : sink_rose → IsCutWithin events n status bytes ⊎ IsCutBehind events n status bytes
+  pub cut : sink_rose → IsCutWithin events n status bytes ⊎ IsCutBehind events n status source_rose bytes
 
 -- what the last commit among the first n events left, or event n where that is a commit
 pub data IsAcknowledged (entry : Stored) (events : List Event) (n : ℕ) (stored : Stored) : Type 0 where
@@ -47,8 +48,12 @@ pub record FollowedFiles (entry : Stored) (events : List Event) (n : ℕ) (files
   pub acknowledged : IsAcknowledged entry events n stored
   pub recovers : RecoversTo stored files
 
--- The files recover to a database of what was there at entry, or of what a commit among the first n events or event n left.
-pub record FollowedBefore (entry : Stored) (events : List Event) (n : ℕ) (files : Files) : Type 0 where
+-- The files recover to a database of what was there at entry, or of what a commit among these events left.
+pub record RecoversIn (entry : Stored) (events : List Event) (files : Files) : Type 0 where
   pub stored : Stored
-  pub saved : IsSavedIn entry (take (n + 1) events) stored
+  pub saved : IsSavedIn entry events stored
   pub recovers : RecoversTo stored files
+
+-- the same of the first n events and event n
+abbrev pub FollowedBefore : Stored → List Event → ℕ → Files → Type 0
+FollowedBefore entry events n = RecoversIn entry (take (n + 1) events)

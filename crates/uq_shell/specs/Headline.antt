@@ -1,6 +1,5 @@
 -- The theorem of a run, one sentence a field.
-use Rattle.std.specs.Prelude.{◌≡◌, ◌⊎◌, ◌≤◌, ℕ, List, ◌++◌, length, take, map, string_bytes, String, IsTrue, [], ◌∷◌}
-use Rattle.std.specs.Global.{Global}
+use Rattle.std.specs.Prelude.{◌≡◌, ◌⊎◌, ◌≤◌, ℕ, List, ◌++◌, length, take, IsTrue, [], ◌∷◌}
 use Rattle.std.specs.Option.{ForSome}
 use Rattle.uq_facts.specs.Causes.{Rose}
 use Rattle.uq_outside.specs.declared.disk.Disk as disk
@@ -11,17 +10,13 @@ use Rattle.uq_outside.specs.Stops.{Only}
 use Rattle.uq_outside.specs.Streams.{Grows}
 use Rattle.uq_kv.specs.Holds.{Holds, HoldsNone}
 use Rattle.uq_kv.specs.Stored.{Stored}
-use Rattle.uq_shell.specs.Events.{last_commit, output}
+use Rattle.uq_shell.specs.Events.{last_commit}
 use Rattle.uq_shell.specs.Followed.{FollowedBefore, FollowedBytes, FollowedFiles, ending_line}
-use Rattle.uq_shell.specs.Run.{Outcome, run_of}
+use Rattle.uq_shell.specs.Run.{Outcome}
 use Rattle.uq_shell.specs.Statuses.{row}
 use Rattle.uq_shell.specs.declared.ended.Ended.{Ended}
 use Rattle.uq_shell.specs.declared.status.Status.{Status}
 use Rattle.uq_shell.specs.declared.status.Status.TheVariants.{Disk, Stream, NotDatabase, Memory}
-
--- the words, as bytes
-abbrev pub texts : List (String Global) → List (List ℕ)
-texts words = map string_bytes words
 
 -- The statuses that come only for a cause. `Memory` is free.
 pub record HasCauses (disk_rose stream_rose holds_none : Type 0) (status : Status) : Type 0 where
@@ -30,10 +25,6 @@ pub record HasCauses (disk_rose stream_rose holds_none : Type 0) (status : Statu
   pub not_database : status ≡ NotDatabase → holds_none
 
 module _ {D : Type 0} (g : disk.Ghosts D) where
-  -- P of what the disk holds, and of what these words then mean
-  abbrev pub OverStore : D → List (String Global) → (Stored → Outcome → Type 0) → Type 0
-  OverStore it words P = (entry : Stored) → Holds g it entry → P entry (run_of (texts words) entry)
-
   -- Whenever it is stopped, the files recover to what the last acknowledged commit left, or the commit under way.
   pub record Recovers (entry : Stored) (run : Outcome) (n : ℕ) (old new : D) : Type 0 where
     pub any_moment : LeavesOnly g old new (FollowedBefore entry run.events n)
@@ -56,19 +47,20 @@ module _ {O : Type 0} (o : sink.Ghosts O) where
   SinkRose old new = Rose (o.faults old) (o.faults new)
 
   -- Behind what the commands wrote stands the line of the status, or, where the sink failed, a prefix of it.
-  pub record EndsInLine (old new : O) (status : Status) : Type 0 where
+  pub record EndsInLine (source_rose : Type 0) (old new : O) (status : Status) : Type 0 where
     pub replies : List ℕ
     pub count : ℕ
     pub grows : Grows (replies ++ take count (ending_line replies status)) (o.written old) (o.written new)
     pub whole : (SinkRose old new → ⊥) → take count (ending_line replies status) ≡ ending_line replies status
     pub no_reply : (IsTrue (row status).follows_replies → ⊥) → replies ≡ []
+    -- the line of `Stream` is the source's
+    pub source : status ≡ Stream → source_rose ⊎ (count ≡ 0)
 
-  -- Where n events were done, a run goes on to write and to end as its meaning does, or is cut short.
-  pub record Meets (run : Outcome) (n : ℕ) (ended : Ended) (old new : O) : Type 0 where
-    -- what is written from then on
+  -- A run writes and ends as its meaning does, or is cut short.
+  pub record Meets (run : Outcome) (source_rose : Type 0) (ended : Ended) (old new : O) : Type 0 where
     pub bytes : List ℕ
     pub grows : Grows bytes (o.written old) (o.written new)
-    pub followed : FollowedBytes run.events ended.done ended.status (SinkRose old new) (output n run.events ++ bytes)
+    pub followed : FollowedBytes run.events ended.done ended.status source_rose (SinkRose old new) bytes
     pub exact : IsTrue (row ended.status).is_whole → (ended.status ≡ run.status) × (ended.done ≡ length run.events)
     pub is_database : ended.status ≡ NotDatabase → ⊥
 
@@ -96,8 +88,3 @@ module _ {D O : Type 0} (g : disk.Ghosts D) (o : sink.Ghosts O) where
 -- The run ends as its meaning ends, or for want of memory.
 abbrev pub IsComplete : Outcome → Status → Type 0
 IsComplete run status = (status ≡ run.status) ⊎ (status ≡ Memory)
-
--- Where no count rose, it does so.
-abbrev pub Completes : {D O : Type 0} → disk.Ghosts D → sink.Ghosts O → List (String Global) → D → D → O → O → Status → Type 0
-Completes g o words old new out_old out_new status =
-    IsQuiet g o old new out_old out_new → OverStore g old words (λ _ run. IsComplete run status)

@@ -1,10 +1,15 @@
 pub mod Answers
+pub mod Carries
 pub mod Commands
 pub mod Ends
 pub mod Events
 pub mod Followed
 pub mod Headline
 pub mod Line
+pub mod Obeys
+pub mod Reached
 pub mod Replies
 pub mod Run
 pub mod Statuses
+pub mod Stream
+pub mod Within

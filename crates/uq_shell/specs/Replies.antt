@@ -6,15 +6,23 @@ use Rattle.uq_kv.specs.declared.error.KvFault.{KvFault}
 use Rattle.uq_kv.specs.declared.error.KvFault.TheVariants as kv
 use Rattle.uq_kv.specs.declared.error.OpenFault.{OpenFault}
 use Rattle.uq_kv.specs.declared.error.OpenFault.TheVariants as opening
+use Rattle.uq_words.specs.declared.error.OptionsFault.{OptionsFault}
+use Rattle.uq_words.specs.declared.error.OptionsFault.TheVariants as options
+use Rattle.uq_words.specs.declared.error.InputFault.{InputFault}
+use Rattle.uq_words.specs.declared.error.InputFault.TheVariants as input
 use Rattle.uq_shell.specs.declared.reply.Refusal.{Refusal}
-use Rattle.uq_shell.specs.declared.reply.Refusal.TheVariants.{BadCommand, UnknownCommand, EmptyKey, KeyTooLong, ValueTooLong, Full, NotFound, NoEntry}
+use Rattle.uq_shell.specs.declared.reply.Refusal.TheVariants.{LineTooLong, BadCommand, UnknownCommand}
+use Rattle.uq_shell.specs.declared.reply.Refusal.TheVariants.{EmptyKey, KeyTooLong, ValueTooLong, Full, NotFound, NoEntry}
 use Rattle.uq_shell.specs.declared.reply.Reply.{Reply}
 use Rattle.uq_shell.specs.declared.reply.Reply.TheVariants as reply
 use Rattle.uq_shell.specs.declared.answering.Answer.{Answer}
+use Rattle.uq_shell.specs.declared.progress.Stop.{Stop}
+use Rattle.uq_shell.specs.declared.progress.Stop.TheVariants.{At}
 use Rattle.uq_shell.specs.declared.status.Status.{Status}
 use Rattle.uq_shell.specs.declared.status.Status.TheVariants as status
 
 abbrev pub refusal_text : Refusal → List ℕ
+refusal_text LineTooLong = codes "line too long"
 refusal_text BadCommand = codes "bad command"
 refusal_text UnknownCommand = codes "unknown command"
 refusal_text EmptyKey = codes "empty key"
@@ -35,6 +43,16 @@ abbrev pub status_at_opening : OpenFault → Status
 status_at_opening opening.Disk = status.Disk
 status_at_opening opening.NotDatabase = status.NotDatabase
 status_at_opening opening.Memory = status.Memory
+
+-- and by words that ask for nothing
+abbrev pub status_of_words : OptionsFault → Status
+status_of_words options.Usage = status.Usage
+status_of_words options.Memory = status.Memory
+
+-- what ends it, by a fault of the input
+abbrev pub stop_by_input : InputFault → Stop
+stop_by_input input.Source = At status.Stream
+stop_by_input input.Memory = At status.Memory
 
 -- what a fault of the store is to a run: a refusal, which is replied, or the end
 abbrev pub taken_as : KvFault → Result Refusal Status

@@ -21,6 +21,19 @@ pub struct Answer {
     pub commits: bool,
 }
 
+impl Answer {
+    ghost use Rattle.std.specs.Prelude.{◌≡◌, ◌≤◌};
+    ghost use Rattle.uq_shell.specs.Obeys.{commits_before};
+
+    /// How many commits stand before the reply.
+    pub fn commit_count(&self) -> u128
+        ensures count { result ≡ commits_before self.now.commits }
+        ensures few { result ≤ 1 }
+    {
+        if self.commits { 1 } else { 0 }
+    }
+}
+
 /// Does what a command asks for.
 pub fn answer_command<D: Disk>(
     alloc: Global,
@@ -35,7 +48,9 @@ pub fn answer_command<D: Disk>(
 {
     match command {
         Command::Store { key, value } => done(kv.store(alloc, Space::Keys, key, value)),
+        Command::Append { key, more } => done(kv.append(alloc, Space::Keys, key, more)),
         Command::Fetch { key } => found(alloc, kv.fetch(alloc, Space::Keys, key)),
+        Command::Delete { key } => done(kv.delete(alloc, Space::Keys, key)),
         Command::Begin => done(kv.begin()),
         Command::Commit => committed(kv.commit()),
         Command::Rollback => done(kv.rollback()),

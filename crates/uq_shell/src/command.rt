@@ -1,11 +1,8 @@
-//! What the words ask for.
-ghost use Rattle.std.specs.Prelude.{◌≡◌};
-ghost use Rattle.std.specs.List.{list_any};
-ghost use Rattle.std.specs.Prelude.{string_bytes};
-ghost use Rattle.uq_shell.specs.Answers.{request_of};
-ghost use Rattle.uq_shell.specs.Commands.{NoWord, filled, request};
-ghost use Rattle.uq_shell.specs.Headline.{texts};
-ghost use Rattle.uq_shell.specs.Run.{begins_with_dash, is_usage};
+//! What the words of a command ask for.
+ghost use Rattle.std.specs.Prelude.{◌≡◌, bytes_eq, map};
+ghost use Rattle.std.specs.Option.{option_map};
+ghost use Rattle.uq_shell.specs.Answers.{form_of, request_of};
+ghost use Rattle.uq_shell.specs.Commands.{NoWord, commands, filled, form_named, request};
 
 use crate::reply::Refusal;
 
@@ -13,7 +10,9 @@ use crate::reply::Refusal;
 #[derive(Clone, Copy, Debug)]
 pub enum Command<'a> {
     Store { key: &'a [u8], value: &'a [u8] },
+    Append { key: &'a [u8], more: &'a [u8] },
     Fetch { key: &'a [u8] },
+    Delete { key: &'a [u8] },
     Begin,
     Commit,
     Rollback,
@@ -21,59 +20,105 @@ pub enum Command<'a> {
     Refused(Refusal),
 }
 
-/// Whether the words name no database or no command, or have an option.
-pub fn lacks_form(words: &[String]) -> bool
-    ensures { result ≡ is_usage (texts words.now) }
-{
-    match words {
-        [] | [_] => true,
-        [name, ..] => name.as_str().is_empty() || has_option(words),
-    }
+/// A command without its words.
+#[derive(Clone, Copy, Debug)]
+pub enum Verb {
+    Store,
+    Append,
+    Fetch,
+    Delete,
+    Begin,
+    Commit,
+    Rollback,
 }
 
-fn has_option(words: &[String]) -> bool
-    ensures { result ≡ list_any (λ word. begins_with_dash (string_bytes word)) words.now }
-{
-    words.iter().any(is_option)
-}
-
-fn is_option(word: &String) -> bool
-    ensures { result ≡ begins_with_dash (string_bytes word.now) }
-{
-    word.as_str().as_bytes().first() == Some(&b'-')
-}
-
-/// The table of commands: each by its name, with the form of the words behind it.
-pub fn read_command<'a>(words: &'a [String]) -> Command<'a>
-    ensures { request_of result ≡ request (texts words.now) }
+/// What the words of a command ask for: its name, and the words that stand behind it.
+pub fn read_command(words: &[Vec<u8>]) -> Command<'_>
+    ensures { request_of result ≡ request (map (λ word. word.items) words.now) }
 {
     let [name, words @ ..] = words else {
         return Command::Refused(Refusal::BadCommand);
     };
-    match name.as_str() {
-        "store" => match words {
+    match verb_named(name.as_slice()) {
+        Some(verb) => command_of(verb, words),
+        None => Command::Refused(Refusal::UnknownCommand),
+    }
+}
+
+/// The command of this name.
+fn verb_named(name: &[u8]) -> Option<Verb>
+    ensures { option_map form_of result ≡ form_named commands name.now }
+{
+    if is_same(name, b"store") {
+        return Some(Verb::Store);
+    }
+    if is_same(name, b"append") {
+        return Some(Verb::Append);
+    }
+    if is_same(name, b"fetch") {
+        return Some(Verb::Fetch);
+    }
+    if is_same(name, b"delete") {
+        return Some(Verb::Delete);
+    }
+    if is_same(name, b"begin") {
+        return Some(Verb::Begin);
+    }
+    if is_same(name, b"commit") {
+        return Some(Verb::Commit);
+    }
+    if is_same(name, b"rollback") {
+        return Some(Verb::Rollback);
+    }
+    None
+}
+
+fn is_same(word: &[u8], name: &[u8]) -> bool
+    ensures { result ≡ bytes_eq word.now name.now }
+{
+    word == name
+}
+
+/// The command with the words behind its name, where these have its form.
+fn command_of<'a>(verb: Verb, words: &'a [Vec<u8>]) -> Command<'a>
+    ensures { request_of result ≡ filled (form_of verb) (map (λ word. word.items) words.now) }
+{
+    match verb {
+        Verb::Store => match words {
             [key, value] => Command::Store {
-                key: key.as_str().as_bytes(),
-                value: value.as_str().as_bytes(),
+                key: key.as_slice(),
+                value: value.as_slice(),
             },
             _ => Command::Refused(Refusal::BadCommand),
         },
-        "fetch" => match words {
+        Verb::Append => match words {
+            [key, more] => Command::Append {
+                key: key.as_slice(),
+                more: more.as_slice(),
+            },
+            _ => Command::Refused(Refusal::BadCommand),
+        },
+        Verb::Fetch => match words {
             [key] => Command::Fetch {
-                key: key.as_str().as_bytes(),
+                key: key.as_slice(),
             },
             _ => Command::Refused(Refusal::BadCommand),
         },
-        "begin" => alone(Command::Begin, words),
-        "commit" => alone(Command::Commit, words),
-        "rollback" => alone(Command::Rollback, words),
-        _ => Command::Refused(Refusal::UnknownCommand),
+        Verb::Delete => match words {
+            [key] => Command::Delete {
+                key: key.as_slice(),
+            },
+            _ => Command::Refused(Refusal::BadCommand),
+        },
+        Verb::Begin => alone(Command::Begin, words),
+        Verb::Commit => alone(Command::Commit, words),
+        Verb::Rollback => alone(Command::Rollback, words),
     }
 }
 
 /// A command that has no words.
-fn alone<'a>(command: Command<'a>, words: &[String]) -> Command<'a>
-    ensures { request_of result ≡ filled (NoWord (request_of command.entry)) (texts words.now) }
+fn alone<'a>(command: Command<'a>, words: &[Vec<u8>]) -> Command<'a>
+    ensures { request_of result ≡ filled (NoWord (request_of command.entry)) (map (λ word. word.items) words.now) }
 {
     match words {
         [] => command,

@@ -4,8 +4,11 @@
 mod answering;
 mod command;
 mod ended;
-mod limits;
+mod ending;
+mod listening;
+mod obeying;
 mod output;
+mod progress;
 mod reply;
 mod running;
 mod status;
@@ -14,5 +17,6 @@ mod tests;
 
 pub use ended::Ended;
 pub use output::put_line;
-pub use running::run;
+pub use running::{run, run_within};
 pub use status::Status;
+pub use uq_words::{Name, OptionsFault, Order, Words, WordsFault, read_options, read_words};

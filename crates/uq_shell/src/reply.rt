@@ -1,7 +1,6 @@
 //! Replies, and how they read.
 ghost use Rattle.std.specs.Prelude.{◌≡◌};
 ghost use Rattle.uq_shell.specs.Replies.{is_refused, refusal_text, taken_as, text_of};
-ghost use Rattle.uq_shell.specs.Statuses.{status_of};
 
 use crate::Status;
 use uq_kv::KvFault;
@@ -19,7 +18,9 @@ pub enum Reply {
 /// Why a command was not done. It has changed nothing.
 #[derive(Clone, Copy, Debug, PartialEq, Eq)]
 pub enum Refusal {
-    /// The words do not have the form of their command.
+    /// The line is longer than a line may be.
+    LineTooLong,
+    /// The line is not made of words, or the words do not have the form of their command.
     BadCommand,
     /// No command has this name.
     UnknownCommand,
@@ -46,14 +47,11 @@ impl Reply {
         }
     }
 
-    /// How a run ends whose only reply it is.
-    pub fn status(&self) -> Status
-        ensures { result ≡ status_of (is_refused self.now) }
+    /// Whether it is a refusal.
+    pub fn is_refusal(&self) -> bool
+        ensures { result ≡ is_refused self.now }
     {
-        match self {
-            Reply::Ok | Reply::Data(_) => Status::Done,
-            Reply::Refused(_) => Status::Refused,
-        }
+        matches!(self, Reply::Refused(_))
     }
 }
 
@@ -62,6 +60,7 @@ impl Refusal {
         ensures { result.now ≡ refusal_text self }
     {
         match self {
+            Refusal::LineTooLong => b"line too long",
             Refusal::BadCommand => b"bad command",
             Refusal::UnknownCommand => b"unknown command",
             Refusal::EmptyKey => b"empty key",

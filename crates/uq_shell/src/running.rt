@@ -1,31 +1,36 @@
 //! A run of the program, from its words to its exit status.
-ghost use Rattle.std.specs.Prelude.{◌≡◌, ◌↔◌, ◌≤◌, ◌<◌, ◌^◌, false, drop, IsTrue, IfOk, OnOk, Some, None};
+ghost use Rattle.std.specs.Prelude.{◌≡◌, ◌≤◌, ◌^◌, false, IfOk, OnOk, None, map};
 ghost use Rattle.std.specs.Option.{ForSome};
 ghost use Rattle.uq_facts.specs.Causes.{AtErr, HasCauseAt};
 ghost use Rattle.uq_journal.specs.Calls.{KeepsRecovered};
 ghost use Rattle.uq_kv.specs.Holds.{HasShape, HoldsNone};
-ghost use Rattle.uq_kv.specs.Kv.{closed_of, is_begun_of};
-ghost use Rattle.uq_kv.specs.Opening.{IsLeftBy};
-ghost use Rattle.uq_shell.specs.Answers.{request_of};
-ghost use Rattle.uq_shell.specs.Commands.{request};
-ghost use Rattle.uq_shell.specs.Ends.{FindsWhatIsThere, Obeys, Says, Serves, Settles, Writes};
-ghost use Rattle.uq_shell.specs.Followed.{some_line};
-ghost use Rattle.uq_shell.specs.Headline.{Completes, EndsInLine, HoldsLast, KeepsCounting, KeepsFilesAtGate};
-ghost use Rattle.uq_shell.specs.Headline.{Meets, OverStore, Recovers, RunsForCauses, texts};
-ghost use Rattle.uq_shell.specs.Run.{is_usage};
-ghost use Rattle.uq_shell.specs.Statuses.{row};
+ghost use Rattle.uq_kv.specs.Kv.{Tells, closed_of, disk_of, is_begun_of, limits_of};
+ghost use Rattle.uq_kv.specs.Opening.{Finds, IsLeftBy};
+ghost use Rattle.uq_model.specs.Session.{opened};
+ghost use Rattle.uq_model.specs.declared.limits.TheConstants.{MOST_BYTES, MOST_ENTRIES};
+ghost use Rattle.uq_shell.specs.Carries.{CarriesOut};
+ghost use Rattle.uq_shell.specs.Ends.{FindsWhatIsThere, RunsOver};
+ghost use Rattle.uq_shell.specs.Headline.{KeepsFilesAtGate};
+ghost use Rattle.uq_shell.specs.Obeys.{at_start};
+ghost use Rattle.uq_shell.specs.Within.{RunsAnywhere, RunsOverStore};
+ghost use Rattle.uq_words.specs.Texts.{texts_of};
 
-use crate::answering::{Answer, answer_command};
-use crate::command::{Command, lacks_form, read_command};
-use crate::limits::LIMITS;
-use crate::output::put_line;
-use crate::reply::Reply;
+use crate::command::read_command;
+use crate::ending::{end, settle};
+use crate::listening::listen;
+use crate::obeying::obey;
+use crate::progress::{Progress, Stop};
 use crate::{Ended, Status};
 use std::alloc::Global;
 use uq_kv::{Kv, OpenFault, Ready, recover};
 use uq_outside::{Disk, Sink, Source};
+use uq_words::{Order, read_options};
 
-/// Obeys the words: the name of a database, and one command.
+/// How many bytes of its input a run reads.
+const MOST_INPUT: u64 = 1 << 40;
+
+/// Obeys the words: options, the name of a database, and one command; or, where there is no command, those of the
+/// input, of which it reads 2^40 bytes at most.
 pub fn run<D: Disk, I: Source, O: Sink>(
     alloc: Global,
     words: &[String],
@@ -33,33 +38,32 @@ pub fn run<D: Disk, I: Source, O: Sink>(
     input: &mut I,
     out: &mut O,
 ) -> Ended
-    // Over every disk, source and sink.
-    ensures causes { RunsForCauses D.Disk O.Sink I.Source disk.old disk.new input.old input.new out.old out.new result.status }
-    ensures usage { (result.status ≡ Status.Usage) ↔ IsTrue (is_usage (texts words.now)) }
-    ensures untouched { result.status ≡ Status.Usage → disk.new ≡ disk.old }
-    ensures unread { input.new ≡ input.old }
-    ensures counts { KeepsCounting D.Disk O.Sink disk.old disk.new out.old out.new }
-    ensures line { EndsInLine O.Sink out.old out.new result.status }
-    // No command is answered over files of another shape, and they still recover to what they recovered to.
-    ensures shape { IsTrue (row result.status).is_answered → ForSome (D.content disk.old) HasShape }
-    ensures foreign { (ForSome (D.content disk.old) HasShape → ⊥) → KeepsRecovered D.Disk disk.old disk.new }
-    // So do files of which no command was answered, or to which the words ask to write nothing.
-    ensures still { result.done ≡ 0 → KeepsRecovered D.Disk disk.old disk.new }
-    ensures reads { (request (drop 1 (texts words.now))).writes ≡ false → KeepsRecovered D.Disk disk.old disk.new }
-    ensures bytes { (request (drop 1 (texts words.now))).writes ≡ false → KeepsFilesAtGate D.Disk disk.old disk.new }
-
-    // Over a disk that holds a store.
-    ensures headline { OverStore D.Disk disk.old words.now (λ _ run. Meets O.Sink run 0 result out.old out.new) }
-    ensures stopped { OverStore D.Disk disk.old words.now (λ entry run. Recovers D.Disk entry run result.done disk.old disk.new) }
-    ensures stored { OverStore D.Disk disk.old words.now (λ entry run. HoldsLast D.Disk entry run result disk.new) }
-    ensures complete { Completes D.Disk O.Sink words.now disk.old disk.new out.old out.new result.status }
+    ensures anywhere { RunsAnywhere D.Disk I.Source O.Sink words.now (2 ^ 40) disk.old disk.new input.old input.new out.old out.new result }
+    ensures store { RunsOverStore D.Disk I.Source O.Sink words.now (2 ^ 40) disk.old disk.new input.old input.new out.old out.new result }
 {
-    if lacks_form(words) {
-        return end(alloc, Status::Usage, 0, None, out);
-    }
-    match open(alloc, disk, words[0].as_str()) {
-        Ok(ready) => obey(alloc, read_command(&words[1..]), ready, disk, out),
-        Err(fault) => end(alloc, Status::from(fault), 0, None, out),
+    run_within(alloc, words, disk, input, out, MOST_INPUT)
+}
+
+/// The same, where at most so many bytes of the input are read.
+pub fn run_within<D: Disk, I: Source, O: Sink>(
+    alloc: Global,
+    words: &[String],
+    disk: &mut D,
+    input: &mut I,
+    out: &mut O,
+    most: u64,
+) -> Ended
+    requires { 1 ≤ most }
+    ensures anywhere { RunsAnywhere D.Disk I.Source O.Sink words.now most disk.old disk.new input.old input.new out.old out.new result }
+    ensures store { RunsOverStore D.Disk I.Source O.Sink words.now most disk.old disk.new input.old input.new out.old out.new result }
+{
+    let order = match read_options(alloc, words) {
+        Ok(order) => order,
+        Err(fault) => return end(alloc, Status::from(fault), &Progress::new(), out),
+    };
+    match open(alloc, disk, order.name.text()) {
+        Ok(ready) => follow(alloc, &order, ready, disk, input, out, most),
+        Err(fault) => end(alloc, Status::from(fault), &Progress::new(), out),
     }
 }
 
@@ -79,94 +83,77 @@ fn open<D: Disk>(alloc: Global, disk: &mut D, name: &str) -> Result<Ready, OpenF
     }
 }
 
-/// Obeys a command over a disk that was just recovered.
-fn obey<D: Disk, O: Sink>(
+/// Follows an order over a disk that was just recovered.
+fn follow<D: Disk, I: Source, O: Sink>(
     alloc: Global,
-    command: Command<'_>,
+    order: &Order,
     ready: Ready,
     disk: &mut D,
+    input: &mut I,
     out: &mut O,
+    most: u64,
 ) -> Ended
-    requires { IsLeftBy D.Disk ready disk.old }
-    ensures obeys { Obeys D.Disk O.Sink (request_of command.entry) ready disk.old disk.new out.old out.new result }
-    ensures line { EndsInLine O.Sink out.old out.new result.status }
+    requires ready { IsLeftBy D.Disk ready disk.old }
+    requires entries { order.now.max_entries ≤ MOST_ENTRIES }
+    requires bytes { order.now.max_bytes ≤ MOST_BYTES }
+    requires most { 1 ≤ most }
+    ensures { RunsOver D.Disk I.Source O.Sink (Finds D.Disk ready disk.old)
+        (record { entries = order.now.max_entries; bytes = order.now.max_bytes }) (texts_of order.now.words)
+        most disk.old disk.new input.old input.new out.old out.new result }
 {
-    let mut kv = Kv::over(disk, ready, LIMITS);
-    let ended = serve(alloc, command, &mut kv, out);
+    let mut kv = Kv::over(disk, ready, order.limits());
+    let ended = serve(alloc, order.words.as_slice(), &mut kv, input, out, most);
     let _disk = kv.into_disk();
     ended
 }
 
-/// Obeys a command over a store on which nothing is begun.
-fn serve<D: Disk, O: Sink>(
+/// Obeys words, or the input where there are none, over a store on which nothing is begun.
+fn serve<D: Disk, I: Source, O: Sink>(
     alloc: Global,
-    command: Command<'_>,
+    words: &[Vec<u8>],
     kv: &mut Kv<'_, D>,
+    input: &mut I,
     out: &mut O,
+    most: u64,
 ) -> Ended
     requires open { closed_of D.Disk kv.old ≡ None }
     requires idle { is_begun_of D.Disk kv.old ≡ false }
-    ensures serves { Serves D.Disk O.Sink (request_of command.entry) kv.old kv.new out.old out.new result }
-    ensures line { EndsInLine O.Sink out.old out.new result.status }
+    requires most { 1 ≤ most }
+    ensures same_reference { (disk_of D.Disk kv.new).ghost_name ≡ (disk_of D.Disk kv.old).ghost_name }
+    ensures runs { RunsOver D.Disk I.Source O.Sink (λ entry. Tells D.Disk kv.old (opened entry)) (limits_of D.Disk kv.old) (map (λ word. word.items) words.now)
+        most (disk_of D.Disk kv.old).now (disk_of D.Disk kv.new).now input.old input.new out.old out.new result }
 {
-    match answer_command(alloc, command, kv) {
-        Ok(answer) => say(alloc, &answer, kv, out),
-        Err(status) => end(alloc, status, 0, None, out),
-    }
-}
-
-/// Puts out the first reply, and ends the run behind it.
-fn say<D: Disk, O: Sink>(alloc: Global, answer: &Answer, kv: &mut Kv<'_, D>, out: &mut O) -> Ended
-    requires open { closed_of D.Disk kv.old ≡ None }
-    requires first { answer.now.commits ≡ false }
-    ensures says { Says D.Disk O.Sink answer.now.reply kv.old kv.new out.old out.new result }
-    ensures line { EndsInLine O.Sink out.old out.new result.status }
-{
-    match put_line(alloc, answer.reply.text(), None, out) {
-        Ok(()) => settle(alloc, &answer.reply, 1, kv, out),
-        Err(_) => Ended {
+    let mut progress = Progress::new();
+    match carry_out(alloc, words, kv, input, &mut progress, out, most) {
+        Ok(()) => settle(alloc, &progress, kv, out),
+        Err(Stop::At(status)) => end(alloc, status, &progress, out),
+        Err(Stop::Sink) => Ended {
             status: Status::Stream,
-            done: 0,
+            done: progress.done,
         },
     }
 }
 
-/// At the end of the input, behind a reply: commits what is begun.
-fn settle<D: Disk, O: Sink>(
+/// Does what the words ask for, or what the input asks for where there are none, up to its end.
+fn carry_out<D: Disk, I: Source, O: Sink>(
     alloc: Global,
-    reply: &Reply,
-    done: u128,
+    words: &[Vec<u8>],
     kv: &mut Kv<'_, D>,
+    input: &mut I,
+    progress: &mut Progress,
     out: &mut O,
-) -> Ended
+    most: u64,
+) -> Result<(), Stop>
     requires open { closed_of D.Disk kv.old ≡ None }
-    requires few { done < 2 ^ 64 }
-    ensures settles { Settles D.Disk O.Sink reply.now done kv.old kv.new out.old out.new result }
-    ensures line { Writes O.Sink (some_line (Some 0x0a) (row result.status).text) out.old out.new }
+    requires idle { is_begun_of D.Disk kv.old ≡ false }
+    requires begins { progress.old ≡ at_start }
+    requires most { 1 ≤ most }
+    ensures { CarriesOut D.Disk I.Source O.Sink (limits_of D.Disk kv.old) (map (λ word. word.items) words.now) most
+        progress.new kv.old kv.new input.old input.new out.old out.new result }
 {
-    match kv.commit() {
-        Ok(true) => Ended {
-            status: reply.status(),
-            done: done + 1,
-        },
-        Ok(false) => Ended {
-            status: reply.status(),
-            done,
-        },
-        Err(_) => end(alloc, Status::Disk, done, Some(b'\n'), out),
+    if words.is_empty() {
+        listen(alloc, kv, input, progress, out, most)
+    } else {
+        obey(alloc, read_command(words), kv, progress, out)
     }
-}
-
-/// Writes the line of the status, behind the byte that was put last.
-fn end<O: Sink>(alloc: Global, status: Status, done: u128, last: Option<u8>, out: &mut O) -> Ended
-    ensures ended { result ≡ record { status = status; done = done } }
-    ensures line { Writes O.Sink (some_line last (row status).text) out.old out.new }
-    ensures later { O.faults out.old ≤ O.faults out.new }
-{
-    let text = status.text();
-    if !text.is_empty() {
-        // A fault of the sink here does not change the status.
-        let _ = put_line(alloc, text, last, out);
-    }
-    Ended { status, done }
 }

@@ -5,6 +5,7 @@ ghost use Rattle.uq_shell.specs.Statuses.{row};
 
 use uq_kv::OpenFault;
 use uq_model::Cause;
+use uq_words::OptionsFault;
 
 /// How a run ended.
 #[derive(Clone, Copy, Debug, PartialEq, Eq)]
@@ -23,6 +24,8 @@ pub enum Status {
     Stream,
     /// The files hold no database.
     NotDatabase,
+    /// More input is left than is read.
+    TooMuchInput,
 }
 
 impl Status {
@@ -38,12 +41,15 @@ impl Status {
         ensures { result.now ≡ (row self).text }
     {
         match self {
-            Status::Done | Status::Refused | Status::Stream => b"",
+            Status::Done | Status::Refused => b"",
             Status::Usage =>
                 b"usage: unqlite [--budget N] [--max-entries N] [--max-bytes N] DB [COMMAND [WORD ...]]",
             Status::Memory => b"out of memory",
             Status::Disk => b"disk failed",
+            // Written where the source failed. Where the sink did, nothing more is.
+            Status::Stream => b"input failed",
             Status::NotDatabase => b"not a database",
+            Status::TooMuchInput => b"too much input",
         }
     }
 }
@@ -70,6 +76,19 @@ impl From<OpenFault> for Status {
             OpenFault::Disk => Status::Disk,
             OpenFault::NotDatabase => Status::NotDatabase,
             OpenFault::Memory => Status::Memory,
+        }
+    }
+}
+
+impl From<OptionsFault> for Status {
+    ghost use Rattle.uq_shell.specs.Replies.{status_of_words};
+
+    ghost from_gives = { λ fault gives. gives ≡ status_of_words fault };
+
+    fn from(fault: OptionsFault) -> Status {
+        match fault {
+            OptionsFault::Usage => Status::Usage,
+            OptionsFault::Memory => Status::Memory,
         }
     }
 }

@@ -1,10 +1,10 @@
 //! Runs over a disk and a sink in memory: replies, calls that fail, and stops at every moment.
-use crate::{Ended, Status, run};
+use crate::{Ended, Status, run, run_within};
 use std::alloc::{AllocError, Global};
 use std::fs;
 use std::process::Abort;
 use std::test::Fail;
-use uq_outside::{Disk, FileDisk, FileNo, Image, MemDisk, MemSink, SureSource};
+use uq_outside::{Disk, FileDisk, FileNo, Image, MemDisk, MemSink, MemSource, Source, SureSource};
 
 /// The length of a page, and of a main file.
 const PAGE: usize = 4096;
@@ -110,7 +110,7 @@ fn a_stored_key_is_fetched_as_a_json_string(rt: HostRuntime) -> Result<(), Fail>
             ended(Status::Refused, 1),
         ),
         (
-            &["t.db"],
+            &["--budget", "1", "t.db"],
             b"usage: unqlite [--budget N] [--max-entries N] [--max-bytes N] DB [COMMAND [WORD ...]]\n",
             ended(Status::Usage, 0),
         ),
@@ -569,8 +569,8 @@ fn an_ending_line_that_is_cut_keeps_its_status(rt: HostRuntime) -> Result<(), Fa
     let zeros = [0; PAGE];
     // The words, the main file, the disk's call that fails, the bytes that are put, and the status.
     let runs: [(&[&str], &[u8], u64, &[u8], Status); 7] = [
-        (&["t.db"], full, 0, b"", Status::Usage),
-        (&["t.db"], full, 0, b"usage", Status::Usage),
+        (&[], full, 0, b"", Status::Usage),
+        (&[""], full, 0, b"usage", Status::Usage),
         (STORE, full, 1, b"", Status::Disk),
         (STORE, full, 1, b"d", Status::Disk),
         (FETCH, full, 5, b"disk", Status::Disk),
@@ -651,5 +651,570 @@ fn the_first_word_names_the_files(rt: HostRuntime) -> Result<(), Fail> {
         assert_eq!(rt; fs::read(&rt, name)?.len(), TWO_PAGES, "{name}");
     }
     fs::remove_dir_all(&rt, "uq_shell_test")?;
+    Ok(())
+}
+
+/// Runs words over a disk and an input of which at most so many bytes are read, into a sink.
+fn follow<D: Disk, I: Source>(
+    alloc: Global,
+    words: &[&str],
+    disk: &mut D,
+    input: &mut I,
+    out: &mut MemSink,
+    most: u64,
+) -> Result<Ended, AllocError> {
+    let mut list = Vec::new(alloc);
+    for word in words {
+        list.push(word.to_string(alloc)?)?;
+    }
+    Ok(run_within(alloc, list.as_slice(), disk, input, out, most))
+}
+
+const MOST: u64 = 1 << 40;
+
+#[test]
+fn the_lines_of_the_input_are_obeyed_in_order(rt: HostRuntime) -> Result<(), Fail> {
+    let runs: [(&[&str], &[u8], &[u8], Ended); 24] = [
+        (&["t.db"], b"", b"", ended(Status::Done, 0)),
+        (
+            &["t.db"],
+            b"\n \t\r\n# store a 1\n  #\n",
+            b"",
+            ended(Status::Done, 0),
+        ),
+        (
+            &["t.db"],
+            b"store \"\" x",
+            b"empty key\n",
+            ended(Status::Refused, 1),
+        ),
+        (
+            &["t.db"],
+            b"store a 1\nfetch a\n",
+            b"ok\n\"1\"\n",
+            ended(Status::Done, 3),
+        ),
+        (
+            &["t.db"],
+            b"store a 1\r\nfetch a\r",
+            b"ok\n\"1\"\n",
+            ended(Status::Done, 3),
+        ),
+        (
+            &["t.db"],
+            b"rollback\ncommit\n",
+            b"ok\nok\n",
+            ended(Status::Done, 2),
+        ),
+        (
+            &["t.db"],
+            b"store a 1\ncommit\nbegin\nstore a 2\nrollback\nfetch a\n",
+            b"ok\nok\nok\nok\nok\n\"1\"\n",
+            ended(Status::Done, 7),
+        ),
+        (
+            &["--max-entries", "1", "t.db"],
+            b"store a 1\nstore b 2\nstore a 22\n",
+            b"ok\nfull\nok\n",
+            ended(Status::Refused, 4),
+        ),
+        (
+            &["--max-bytes", "3", "t.db"],
+            b"store a 1\nstore a 12\nstore a \"\"\n",
+            b"ok\nfull\nok\n",
+            ended(Status::Refused, 4),
+        ),
+        (
+            &["t.db"],
+            b"\"store\" a \"1 2\"\nfetch a",
+            b"ok\n\"1 2\"\n",
+            ended(Status::Done, 3),
+        ),
+        (
+            &["t.db"],
+            b"fetch",
+            b"bad command\n",
+            ended(Status::Refused, 1),
+        ),
+        (
+            &["t.db"],
+            b"fetch a b",
+            b"bad command\n",
+            ended(Status::Refused, 1),
+        ),
+        (
+            &["t.db"],
+            b"begin now",
+            b"bad command\n",
+            ended(Status::Refused, 1),
+        ),
+        (
+            &["t.db"],
+            b"fetch \"a",
+            b"bad command\n",
+            ended(Status::Refused, 1),
+        ),
+        (
+            &["t.db"],
+            b"fetch a\"",
+            b"bad command\n",
+            ended(Status::Refused, 1),
+        ),
+        (
+            &["t.db"],
+            b"what \"a",
+            b"bad command\n",
+            ended(Status::Refused, 1),
+        ),
+        (
+            &["t.db"],
+            b"what a b c",
+            b"unknown command\n",
+            ended(Status::Refused, 1),
+        ),
+        (
+            &["t.db"],
+            b"script",
+            b"unknown command\n",
+            ended(Status::Refused, 1),
+        ),
+        (
+            &["t.db"],
+            b"\"\"",
+            b"unknown command\n",
+            ended(Status::Refused, 1),
+        ),
+        (
+            &["t.db"],
+            b"store a \xff\x00\nfetch a",
+            b"ok\n\"\xff\\u0000\"\n",
+            ended(Status::Done, 3),
+        ),
+        (
+            &["t.db", "--", "begin"],
+            b"what\n",
+            b"ok\n",
+            ended(Status::Done, 2),
+        ),
+        (
+            &["t.db", "fetch", "a"],
+            b"what\n",
+            b"not found\n",
+            ended(Status::Refused, 1),
+        ),
+        (
+            &["t.db"],
+            b"fetch a\nfetch a\n",
+            b"not found\nnot found\n",
+            ended(Status::Refused, 2),
+        ),
+        (
+            &["t.db"],
+            b"begin\n\nfetch a",
+            b"ok\nnot found\n",
+            ended(Status::Refused, 3),
+        ),
+    ];
+    for (words, input, wanted, wanted_end) in runs {
+        for piece in [1, 2, 7, 1000] {
+            let mut disk = MemDisk::new(rt.alloc(), b"", b"", &[])?;
+            let mut source = MemSource::new(rt.alloc(), input, piece, &[])?;
+            let mut out = MemSink::new(rt.alloc(), &[])?;
+            let end = follow(rt.alloc(), words, &mut disk, &mut source, &mut out, MOST)?;
+            assert_eq!(rt; out.written(), wanted);
+            assert!(rt; end == wanted_end, "{end:?}");
+        }
+    }
+    Ok(())
+}
+
+#[test]
+fn only_so_many_bytes_are_read_and_nothing_is_committed_then(rt: HostRuntime) -> Result<(), Fail> {
+    let input = b"store a 1\nstore b 2";
+    for most in 1..20 {
+        let mut disk = MemDisk::new(rt.alloc(), b"", b"", &[])?;
+        let mut out = MemSink::new(rt.alloc(), &[])?;
+        let mut source = SureSource::new(input);
+        let end = follow(
+            rt.alloc(),
+            &["t.db"],
+            &mut disk,
+            &mut source,
+            &mut out,
+            most,
+        )?;
+        if most < 10 {
+            assert_eq!(rt; out.written(), b"too much input\n".as_slice());
+            assert!(rt; end == ended(Status::TooMuchInput, 0));
+        } else {
+            assert_eq!(rt; out.written(), b"ok\ntoo much input\n".as_slice());
+            assert!(rt; end == ended(Status::TooMuchInput, 1));
+        }
+        let mut found = MemSink::new(rt.alloc(), &[])?;
+        obey(rt.alloc(), FETCH, &mut disk, &mut found)?;
+        assert_eq!(rt; found.written(), NOT_FOUND);
+    }
+    Ok(())
+}
+
+#[test]
+fn a_source_that_fails_ends_the_run_behind_its_line(rt: HostRuntime) -> Result<(), Fail> {
+    let input = b"store a 1\ncommit\nstore b 2\n";
+    for take in 1..28 {
+        let mut disk = MemDisk::new(rt.alloc(), b"", b"", &[])?;
+        let mut out = MemSink::new(rt.alloc(), &[])?;
+        let mut source = MemSource::new(rt.alloc(), input, 1, &[take])?;
+        let end = follow(
+            rt.alloc(),
+            &["t.db"],
+            &mut disk,
+            &mut source,
+            &mut out,
+            MOST,
+        )?;
+        let (wanted, done): (&[u8], u128) = if take <= 10 {
+            (b"input failed\n", 0)
+        } else if take <= 17 {
+            (b"ok\ninput failed\n", 1)
+        } else {
+            (b"ok\nok\ninput failed\n", 3)
+        };
+        assert_eq!(rt; out.written(), wanted);
+        assert!(rt; end == ended(Status::Stream, done), "{end:?}");
+    }
+    Ok(())
+}
+
+#[test]
+fn blanks_returns_and_quoted_words_are_read_by_the_rules(rt: HostRuntime) -> Result<(), Fail> {
+    let runs: [(&[u8], &[u8]); 14] = [
+        (b"\tfetch \t a \t\r\n", b"not found\n"),
+        (b"\r\n\r\n \r", b""),
+        (b" \t# fetch a\n\t#\n", b""),
+        (b"fetch a#\nfetch #\n", b"not found\nnot found\n"),
+        (b"store a\rb 1\nfetch a\rb\n", b"ok\n\"1\"\n"),
+        (b"store a\r 1\nfetch a\r\r\n", b"ok\n\"1\"\n"),
+        (
+            b"store \"\\\"\\\\\\/\\b\\f\\n\\r\\t\\u0041\\u00e9\" 1\nfetch \"\\\"\\\\/\\b\\f\\n\\r\\tA\xc3\xa9\"\n",
+            b"ok\n\"1\"\n",
+        ),
+        (b"store a \"1\"2\n", b"bad command\n"),
+        (b"store a \"1\"\t\nfetch a\n", b"ok\n\"1\"\n"),
+        (b"store a \"\\q\"\n", b"bad command\n"),
+        (b"store a\"b 1\n", b"bad command\n"),
+        (
+            b"append k ab\nappend k cd\nfetch k\n",
+            b"ok\nok\n\"abcd\"\n",
+        ),
+        (
+            b"delete a\nstore a 1\ndelete a\nfetch a\ndelete \"\"\n",
+            b"not found\nok\nok\nnot found\nempty key\n",
+        ),
+        (
+            b"append a\nappend a b c\ndelete\ndelete a b\nappend \"\" x\n",
+            b"bad command\nbad command\nbad command\nbad command\nempty key\n",
+        ),
+    ];
+    for (input, wanted) in runs {
+        let mut disk = MemDisk::new(rt.alloc(), b"", b"", &[])?;
+        let mut out = MemSink::new(rt.alloc(), &[])?;
+        let mut source = SureSource::new(input);
+        follow(
+            rt.alloc(),
+            &["t.db"],
+            &mut disk,
+            &mut source,
+            &mut out,
+            MOST,
+        )?;
+        assert_eq!(rt; out.written(), wanted);
+    }
+    Ok(())
+}
+
+#[test]
+fn options_are_refused_in_other_places_and_forms(rt: HostRuntime) -> Result<(), Fail> {
+    let refused: [&[&str]; 16] = [
+        &[],
+        &[""],
+        &["--max-entries"],
+        &["--max-entries", "1"],
+        &["--max-entries", "0", "t.db"],
+        &["--max-entries", "16777217", "t.db"],
+        &["--max-entries", "+1", "t.db"],
+        &["--max-entries", "1", "--max-entries", "1", "t.db"],
+        &["--max-bytes", "1073741825", "t.db"],
+        &["--max-bytes=5", "t.db"],
+        &["--budget", "1", "t.db"],
+        &["t.db", "--max-bytes", "5"],
+        &["t.db", "fetch", "-a"],
+        &["-", "fetch", "a"],
+        &["--"],
+        &["--", ""],
+    ];
+    for words in refused {
+        let mut disk = MemDisk::new(rt.alloc(), b"", b"", &[])?;
+        let mut out = MemSink::new(rt.alloc(), &[])?;
+        let end = obey(rt.alloc(), words, &mut disk, &mut out)?;
+        assert_eq!(rt; end, ended(Status::Usage, 0), "{words:?}");
+        assert_eq!(rt; disk.calls(), 0, "{words:?}");
+    }
+    let taken: [&[&str]; 6] = [
+        &[
+            "--max-entries",
+            "007",
+            "--max-bytes",
+            "1073741824",
+            "t.db",
+            "fetch",
+            "a",
+        ],
+        &[
+            "--max-bytes",
+            "1",
+            "--max-entries",
+            "16777216",
+            "t.db",
+            "fetch",
+            "a",
+        ],
+        &["--", "t.db", "fetch", "a"],
+        &["t.db", "--", "fetch", "a"],
+        &["t.db", "fetch", "--", "-a"],
+        &["--max-entries", "1", "--", "-t.db", "fetch", "a"],
+    ];
+    for words in taken {
+        let mut disk = MemDisk::new(rt.alloc(), b"", b"", &[])?;
+        let mut out = MemSink::new(rt.alloc(), &[])?;
+        let end = obey(rt.alloc(), words, &mut disk, &mut out)?;
+        assert_eq!(rt; end, ended(Status::Refused, 1), "{words:?}");
+        assert_eq!(rt; out.written(), NOT_FOUND, "{words:?}");
+    }
+    Ok(())
+}
+
+/// Twelve commands, with two commits in their middle.
+const TWELVE: &[u8] =
+    b"store a 1\ncommit\nstore a 2\nrollback\nfetch a\nbegin\nappend a 3\ncommit\ndelete a\nstore b 4\nfetch b\nstore a 5\n";
+
+/// An event of their run: what it puts out, and what `fetch a` replies over what it saves, where it is a commit.
+#[derive(Clone, Copy)]
+struct Event {
+    bytes: &'static [u8],
+    saved: Option<&'static [u8]>,
+}
+
+fn puts(bytes: &'static [u8]) -> Event {
+    Event { bytes, saved: None }
+}
+
+fn saves(found: &'static [u8]) -> Event {
+    Event {
+        bytes: b"",
+        saved: Some(found),
+    }
+}
+
+fn events_of_twelve() -> [Event; 15] {
+    [
+        puts(b"ok\n"),
+        saves(b"\"1\"\n"),
+        puts(b"ok\n"),
+        puts(b"ok\n"),
+        puts(b"ok\n"),
+        puts(b"\"1\"\n"),
+        puts(b"ok\n"),
+        puts(b"ok\n"),
+        saves(b"\"13\"\n"),
+        puts(b"ok\n"),
+        puts(b"ok\n"),
+        puts(b"ok\n"),
+        puts(b"\"4\"\n"),
+        puts(b"ok\n"),
+        saves(b"\"5\"\n"),
+    ]
+}
+
+/// What the first events put out.
+fn put_by(alloc: Global, done: u128) -> Result<Vec<u8>, AllocError> {
+    let events = events_of_twelve();
+    let mut bytes = Vec::new(alloc);
+    let mut number: u128 = 0;
+    for event in events.iter() {
+        if number < done {
+            bytes.extend_from_slice(event.bytes)?;
+        }
+        number = number.saturating_add(1);
+    }
+    Ok(bytes)
+}
+
+/// Whether a stop may leave a store of which `fetch a` replies this, where so many events are done. At the end of the
+/// run it is what the last commit among them saved, or a commit under way; before, what any of them saved.
+fn may_leave(found: &[u8], done: u128, is_over: bool) -> bool {
+    let mut last = NOT_FOUND;
+    let mut was_saved = found == last;
+    let mut is_under_way = false;
+    let events = events_of_twelve();
+    let mut number: u128 = 0;
+    for event in events.iter() {
+        if let Some(saved) = event.saved {
+            if number < done {
+                last = saved;
+                was_saved = was_saved || found == saved;
+            }
+            if number == done {
+                is_under_way = found == saved;
+            }
+        }
+        number = number.saturating_add(1);
+    }
+    is_under_way || found == last || (was_saved && !is_over)
+}
+
+/// How many images there are of a run of the twelve that has ended so, each of which reopens as the rules allow.
+fn count_stops_of_twelve(
+    rt: &impl Abort,
+    alloc: Global,
+    disk: &MemDisk,
+    end: Ended,
+) -> Result<u64, Fail> {
+    let mut images: u64 = 0;
+    for choice in 0..5u8 {
+        // What was not synced is absent, present, or there by half.
+        if choice == 2 || choice == 3 {
+            continue;
+        }
+        let mut last: Option<Image> = None;
+        for moment in 0..=disk.calls() {
+            if moment > disk.calls() {
+                return Ok(images);
+            }
+            let image = disk.image(moment, choice)?;
+            let is_over = moment == disk.calls();
+            let is_known = match &last {
+                Some(last) => last.main() == image.main() && last.journal() == image.journal(),
+                None => false,
+            };
+            if is_over || !is_known {
+                let found = fetched(alloc, &image)?;
+                assert!(rt;
+                    may_leave(found.written(), end.done, is_over),
+                    "{end:?} {moment} {choice}"
+                );
+                images = images.saturating_add(1);
+            }
+            last = Some(image);
+        }
+    }
+    Ok(images)
+}
+
+#[test]
+fn a_source_that_fails_in_twelve_commands_leaves_what_was_saved(
+    rt: HostRuntime,
+) -> Result<(), Fail> {
+    let mut images: u64 = 0;
+    for take in 1..16 {
+        let mut disk = MemDisk::new(rt.alloc(), b"", b"", &[])?;
+        let mut out = MemSink::new(rt.alloc(), &[])?;
+        let mut source = MemSource::new(rt.alloc(), TWELVE, 8, &[take])?;
+        let end = follow(
+            rt.alloc(),
+            &["t.db"],
+            &mut disk,
+            &mut source,
+            &mut out,
+            MOST,
+        )?;
+        let mut wanted = put_by(rt.alloc(), end.done)?;
+        if end.status == Status::Stream {
+            wanted.extend_from_slice(b"input failed\n")?;
+        } else {
+            assert_eq!(rt; end, ended(Status::Done, 15));
+        }
+        assert_eq!(rt; out.written(), wanted.as_slice(), "{take}");
+        let more = count_stops_of_twelve(&rt, rt.alloc(), &disk, end)?;
+        images = images.saturating_add(more);
+    }
+    assert!(rt; images > 100, "{images}");
+    Ok(())
+}
+
+#[test]
+fn a_sink_that_fails_in_twelve_commands_leaves_what_was_saved(rt: HostRuntime) -> Result<(), Fail> {
+    let mut images: u64 = 0;
+    for put in 1..13 {
+        for kept in 0..2 {
+            let mut disk = MemDisk::new(rt.alloc(), b"", b"", &[])?;
+            let mut out = MemSink::new(rt.alloc(), &[(put, kept)])?;
+            let mut source = SureSource::new(TWELVE);
+            let end = follow(
+                rt.alloc(),
+                &["t.db"],
+                &mut disk,
+                &mut source,
+                &mut out,
+                MOST,
+            )?;
+            assert_eq!(rt; end.status, Status::Stream, "{put} {kept}");
+            let done = put_by(rt.alloc(), end.done)?;
+            let whole = put_by(rt.alloc(), end.done.saturating_add(1))?;
+            assert!(rt; whole.as_slice().starts_with(out.written()), "{put} {kept}");
+            assert!(rt; out.written().starts_with(done.as_slice()), "{put} {kept}");
+            let more = count_stops_of_twelve(&rt, rt.alloc(), &disk, end)?;
+            images = images.saturating_add(more);
+        }
+    }
+    assert!(rt; images > 200, "{images}");
+    Ok(())
+}
+
+/// How many images there are of the runs of the twelve over a disk that fails in a call and in all behind it, for each
+/// of these calls.
+fn count_failing_twelve(
+    rt: &impl Abort,
+    alloc: Global,
+    first: u64,
+    behind: u64,
+) -> Result<u64, Fail> {
+    let mut images: u64 = 0;
+    for call in first..behind {
+        let mut fails = Vec::new(alloc);
+        for later in 0..MANY_CALLS {
+            fails.push(later.saturating_add(call))?;
+        }
+        let mut disk = MemDisk::new(alloc, b"", b"", &fails)?;
+        let mut out = MemSink::new(alloc, &[])?;
+        let mut source = SureSource::new(TWELVE);
+        let end = follow(alloc, &["t.db"], &mut disk, &mut source, &mut out, MOST)?;
+        let mut wanted = put_by(alloc, end.done)?;
+        if end.status == Status::Disk {
+            wanted.extend_from_slice(FAILED)?;
+        } else {
+            assert_eq!(rt; end, ended(Status::Done, 15));
+        }
+        assert_eq!(rt; out.written(), wanted.as_slice(), "{call}");
+        let more = count_stops_of_twelve(rt, alloc, &disk, end)?;
+        images = images.saturating_add(more);
+    }
+    Ok(images)
+}
+
+#[test]
+fn a_disk_that_fails_early_in_twelve_commands_leaves_what_was_saved_or_the_commit_under_way(
+    rt: HostRuntime,
+) -> Result<(), Fail> {
+    let images = count_failing_twelve(&rt, rt.alloc(), 1, 24)?;
+    assert!(rt; images > 50, "{images}");
+    Ok(())
+}
+
+#[test]
+fn a_disk_that_fails_late_in_twelve_commands_leaves_what_was_saved_or_the_commit_under_way(
+    rt: HostRuntime,
+) -> Result<(), Fail> {
+    let images = count_failing_twelve(&rt, rt.alloc(), 24, 48)?;
+    assert!(rt; images > 200, "{images}");
     Ok(())
 }

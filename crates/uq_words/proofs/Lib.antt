@@ -1,6 +1,7 @@
 pub mod Splitting
 pub mod Numbers
 pub mod Plains
+pub mod Shorter
 pub mod Cutting
 pub mod Pieces
 pub mod Spelling

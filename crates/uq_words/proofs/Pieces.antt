@@ -1,5 +1,5 @@
 -- Lines in the pieces that were taken of a source.
-use Rattle.std.proofs.Common.{◌≡◌, ℕ, ◌+◌, ◌-◌, ◌<◌, ◌≤◌, ◌⊎◌, inl, inr, Bool, true, false, ltb, eqb, cond, [], ◌∷◌, ◌++◌, length, Option, Some, None, Result, Ok, Err, refl, sym, ap, subst, ◌∙◌, append_assoc, append-nil, length-append, arith}
+use Rattle.std.proofs.Common.{◌≡◌, ℕ, ◌+◌, ◌-◌, ◌<◌, ◌≤◌, inl, inr, Bool, true, ltb, eqb, cond, [], ◌∷◌, ◌++◌, length, Option, Some, None, Result, Ok, Err, refl, sym, ap, subst, ◌∙◌, append_assoc, append-nil, length-append, arith}
 use Rattle.std.proofs.lemmas.Bool.{ne_eqb}
 use Rattle.std.specs.Io.KnownBytes.{IsAtEnd}
 use Rattle.std.specs.Option.{ForSome, option_map}
@@ -8,7 +8,7 @@ use Rattle.uq_outside.specs.Stops.{Told}
 use Rattle.uq_outside.specs.declared.source.Source.{Ghosts}
 use Rattle.uq_value.specs.Data.{Bytes}
 use Rattle.uq_words.specs.Lines.{HasNoFeed, IsLast, IsLine, IsPart, IsTooMuch, kept, longest, without_return}
-use Rattle.uq_words.specs.Taking.{Fills, Going, Takes, Took, room_of}
+use Rattle.uq_words.specs.Taking.{Fills, Going, IsNotEnded, Takes, Took, room_of}
 use Rattle.uq_words.specs.declared.error.InputFault.{InputFault}
 use Rattle.uq_words.specs.declared.error.InputFault.TheVariants.{Source}
 use Rattle.uq_words.specs.declared.lines.Lines.{Lines}
@@ -95,7 +95,7 @@ took_both n m k before mid now is (inr first) (inr next) = inr (omega arith)
 
 module _ {I : Type 0} (i : Ghosts I) where
   pub going_here : (it : Lines) (input : I) → Going i it input it input
-  going_here it input = record { faults = refl; room = omega arith; taken = inl (omega arith, refl); fresh = inl refl }
+  going_here it input = record { faults = refl; room = omega arith; taken = inl (omega arith, refl); fresh = inl (refl, refl) }
 
   module _ (old : Lines) (in_old : I) (mid : Lines) (in_mid : I) (going : Going i old in_old mid in_mid) where
     -- one more piece
@@ -128,9 +128,9 @@ module _ {I : Type 0} (i : Ghosts I) where
           not_last = λ how. fresh_on (takes.not_last how);
         }
       where
-        fresh_on : (in_new ≡ in_mid) ⊎ (i.ended in_new ≡ false) → (in_new ≡ in_old) ⊎ (i.ended in_new ≡ false)
+        fresh_on : IsNotEnded i mid in_mid new in_new → IsNotEnded i old in_old new in_new
         fresh_on (inr no_end) = inr no_end
-        fresh_on (inl same) = elim going.fresh [ inl first ↦ inl (same ∙ first) | inr no_end ↦ inr (ap i.ended same ∙ no_end) ]
+        fresh_on (inl same) = elim going.fresh [ inl first ↦ inl (same.0 ∙ first.0, same.1 ∙ first.1) | inr no_end ↦ inr (ap i.ended same.1 ∙ no_end) ]
 
     -- no more was taken, and as much may be
     pub going_still : (new : Lines) → new.room ≡ mid.room → Going i old in_old new in_mid
@@ -140,7 +140,7 @@ module _ {I : Type 0} (i : Ghosts I) where
           faults = going.faults;
           room = omega arith;
           taken = subst (λ (n : ℕ). Took (room_of old - n) (i.taken in_old) (i.taken in_mid)) (sym same) going.taken;
-          fresh = going.fresh;
+          fresh = elim going.fresh [ inl first ↦ inl (same ∙ first.0, first.1) | inr no_end ↦ inr no_end ];
         }
 
   -- ---- what the last piece of a step takes
@@ -152,7 +152,7 @@ module _ {I : Type 0} (i : Ghosts I) where
     taken = inl (omega arith, refl);
     too_much = λ is. absurd (cc);
     last = λ is. absurd (cc);
-    not_last = λ how. inl refl;
+    not_last = λ how. inl (same, refl);
   }
 
   pub takes_full : (it new : Lines) (input : I) → new.room ≡ it.room → it.room ≡ 0 → Takes i (Ok TooMuch) it input new input
@@ -162,7 +162,7 @@ module _ {I : Type 0} (i : Ghosts I) where
     taken = inl (omega arith, refl);
     too_much = λ is. same ∙ full;
     last = λ is. absurd (cc);
-    not_last = λ how. inl refl;
+    not_last = λ how. inl (same, refl);
   }
 
   pub takes_last : (it full new : Lines) (in_old in_new : I) (count : ℕ) → Fills i (Ok count) it in_old full in_new → count ≡ 0 → new.room ≡ full.room → Takes i (Ok Last) it in_old new in_new

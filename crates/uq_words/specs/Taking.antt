@@ -45,6 +45,10 @@ module _ {I : Type 0} (i : Ghosts I) where
   Finds (Ok TooMuch) left most new in_new = ForSome left (λ input. IsTooMuch most input)
   Finds (Err fault) left most new in_new = Told IsPart left (i.left in_new)
 
+  -- nothing was taken, or the last take has not told the end
+  abbrev pub IsNotEnded : Lines → I → Lines → I → Type 0
+  IsNotEnded old in_old new in_new = ((room_of new ≡ room_of old) × (in_new ≡ in_old)) ⊎ (i.ended in_new ≡ false)
+
   -- Whether the source tells its bytes or not: the count of faults, the number of bytes taken, and whether the end was told.
   pub record Takes (result : Result Step InputFault) (old : Lines) (in_old : I) (new : Lines) (in_new : I) : Type 0 where
     pub cause : HasCauseAt Source (i.faults in_old) (i.faults in_new) result
@@ -53,7 +57,11 @@ module _ {I : Type 0} (i : Ghosts I) where
     pub too_much : result ≡ Ok TooMuch → room_of new ≡ 0
     pub last : result ≡ Ok Last → i.ended in_new ≡ true
     -- the end was told only by the last line
-    pub not_last : (result ≡ Ok Line) ⊎ (result ≡ Ok TooMuch) → (in_new ≡ in_old) ⊎ (i.ended in_new ≡ false)
+    pub not_last : (result ≡ Ok Line) ⊎ (result ≡ Ok TooMuch) → IsNotEnded old in_old new in_new
+
+-- behind a line fewer bytes count than before it, whether the source tells them or not
+abbrev pub Shortens : Result Step InputFault → Lines → Lines → Type 0
+Shortens result old new = result ≡ Ok Line → most_of new < most_of old
 
 -- ---- the steps within
 
@@ -104,7 +112,7 @@ module _ {I : Type 0} (i : Ghosts I) where
     pub faults : i.faults in_new ≡ i.faults in_old
     pub room : room_of new ≤ room_of old
     pub taken : Took (room_of old - room_of new) (i.taken in_old) (i.taken in_new)
-    pub fresh : (in_new ≡ in_old) ⊎ (i.ended in_new ≡ false)
+    pub fresh : IsNotEnded i old in_old new in_new
 
   -- The line that was at the front goes on up to here, and is too long.
   pub record Passing (old : Lines) (in_old : I) (new : Lines) (in_new : I) : Type 0 where

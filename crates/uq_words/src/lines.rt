@@ -52,7 +52,7 @@ impl Lines {
     ghost use Rattle.std.specs.List.{position_or_len};
     ghost use Rattle.std.specs.Option.{option_map};
     ghost use Rattle.uq_words.specs.Lines.{HasNoFeed, is_feed};
-    ghost use Rattle.uq_words.specs.Taking.{Cleared, Cuts, Fills, Finds, Passes, Takes, Trims, left_of, most_of, pending, room_of, text_of};
+    ghost use Rattle.uq_words.specs.Taking.{Cleared, Cuts, Fills, Finds, Passes, Shortens, Takes, Trims, left_of, most_of, pending, room_of, text_of};
 
     /// The lines of an input of which at most so many bytes are taken. No line was taken yet.
     pub fn new(alloc: Global, most: u64) -> Lines
@@ -85,6 +85,7 @@ impl Lines {
     pub fn advance<I: Source>(&mut self, input: &mut I) -> Result<Step, InputFault>
         ensures finds { Finds I.Source result (left_of I.Source self.old input.old) (most_of self.old) self.new input.new }
         ensures takes { Takes I.Source result self.old input.old self.new input.new }
+        ensures shorter { Shortens result self.old self.new }
     {
         let mut searched = 0;
         'pieces: loop {
@@ -112,6 +113,7 @@ impl Lines {
     fn skip<I: Source>(&mut self, input: &mut I) -> Result<Step, InputFault>
         ensures passes { Passes I.Source result self.old input.old self.new input.new }
         ensures takes { Takes I.Source result self.old input.old self.new input.new }
+        ensures shorter { Shortens result self.old self.new }
     {
         'pieces: loop {
             self.clear();

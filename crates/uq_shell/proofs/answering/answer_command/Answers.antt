@@ -2,7 +2,7 @@ use Rattle.std.proofs.Common.{Ok, sym, subst, ◌∙◌}
 use Rattle.std.specs.Prelude.{IfOk}
 use Rattle.uq_json.specs.Quote.{quoted}
 use Rattle.uq_outside.specs.Since.{Laws}
-use Rattle.uq_kv.specs.Calls.{fetches, stores}
+use Rattle.uq_kv.specs.Calls.{appends, deletes, fetches, stores}
 use Rattle.uq_kv.specs.Kv.{limits_of}
 use Rattle.uq_kv.specs.declared.space.Space.TheVariants.{Keys}
 use Rattle.uq_shell.specs.Answers.{DoesAsAsked, Leaves, request_of}
@@ -26,6 +26,34 @@ returns-in-Store-clause-leaves g c =
     c.requires c.store.ensures.keeps c.store.ensures.cause
     (stop_saved g.D.Disk c.args.kv.now c.store.new.self (request_of (command.Store c.in-Store.key c.in-Store.value)) c.store.ensures.stop)
     (λ reads. absurd (cc)) (λ reads. absurd (cc)) (λ _. c.store.ensures.kept.stop))
+
+pub returns-in-Append-clause-does : goal.returns-in-Append-clause-does
+returns-in-Append-clause-does g c =
+    subst (λ (it : Command). IfOk c.done-in-Append.result (DoesAsAsked g.D.Disk (request_of it) c.args.kv.now c.append.new.self)) (sym c.in-Append.is)
+    (step_does g.D.Disk c.args.kv.now c.append.new.self (λ done. done) (λ _. says_ok)
+    (appends (limits_of g.D.Disk c.args.kv.now) Keys c.in-Append.key.now c.in-Append.more.now) c.append.result c.done-in-Append.result c.done-in-Append.ensures c.append.ensures.does)
+
+pub returns-in-Append-clause-leaves : goal.returns-in-Append-clause-leaves
+returns-in-Append-clause-leaves g c =
+    subst (λ (it : Command). Leaves g.D.Disk (request_of it) c.args.kv.now c.append.new.self c.done-in-Append.result) (sym c.in-Append.is)
+    (leaves g.D.Disk c.args.kv.now c.append.new.self (request_of (command.Append c.in-Append.key c.in-Append.more)) _ c.append.result c.done-in-Append.result c.done-in-Append.ensures
+    c.requires c.append.ensures.keeps c.append.ensures.cause
+    (stop_saved g.D.Disk c.args.kv.now c.append.new.self (request_of (command.Append c.in-Append.key c.in-Append.more)) c.append.ensures.stop)
+    (λ reads. absurd (cc)) (λ reads. absurd (cc)) (λ _. c.append.ensures.kept.stop))
+
+pub returns-in-Delete-clause-does : goal.returns-in-Delete-clause-does
+returns-in-Delete-clause-does g c =
+    subst (λ (it : Command). IfOk c.done-in-Delete.result (DoesAsAsked g.D.Disk (request_of it) c.args.kv.now c.delete.new.self)) (sym c.in-Delete.is)
+    (step_does g.D.Disk c.args.kv.now c.delete.new.self (λ done. done) (λ _. says_ok)
+    (deletes Keys c.in-Delete.key.now) c.delete.result c.done-in-Delete.result c.done-in-Delete.ensures c.delete.ensures.does)
+
+pub returns-in-Delete-clause-leaves : goal.returns-in-Delete-clause-leaves
+returns-in-Delete-clause-leaves g c =
+    subst (λ (it : Command). Leaves g.D.Disk (request_of it) c.args.kv.now c.delete.new.self c.done-in-Delete.result) (sym c.in-Delete.is)
+    (leaves g.D.Disk c.args.kv.now c.delete.new.self (request_of (command.Delete c.in-Delete.key)) _ c.delete.result c.done-in-Delete.result c.done-in-Delete.ensures
+    c.requires c.delete.ensures.keeps c.delete.ensures.cause
+    (stop_saved g.D.Disk c.args.kv.now c.delete.new.self (request_of (command.Delete c.in-Delete.key)) c.delete.ensures.stop)
+    (λ reads. absurd (cc)) (λ reads. absurd (cc)) (λ _. c.delete.ensures.kept.stop))
 
 pub returns-in-Fetch-clause-does : goal.returns-in-Fetch-clause-does
 returns-in-Fetch-clause-does g c =

@@ -1,28 +1,33 @@
-use Rattle.std.proofs.Common.{rules, [], refl, sym, subst}
-use Rattle.uq_outside.specs.Since.{Laws}
-use Rattle.uq_shell.specs.Answers.{request_of}
-use Rattle.uq_shell.specs.Ends.{Serves}
-use Rattle.uq_shell.specs.Headline.{EndsInLine}
+use Rattle.std.proofs.Common.{◌≡◌, Err, map, sym, subst}
+use Rattle.uq_model.specs.Session.{opened}
+use Rattle.uq_kv.specs.Kv.{Tells, disk_of, limits_of}
+use Rattle.uq_shell.specs.Carries.{CarriesOut}
+use Rattle.uq_shell.specs.Ends.{RunsOver}
 use Rattle.uq_shell.specs.declared.ended.Ended.{Ended}
-use Rattle.uq_shell.proofs.Ending.{ends_in_line}
-use Rattle.uq_shell.proofs.Lines.{grows_nothing}
-use Rattle.uq_shell.proofs.Served.{serves_answer, serves_cut}
+use Rattle.uq_shell.specs.declared.progress.Stop.{Stop}
+use Rattle.uq_shell.specs.declared.progress.Stop.TheVariants.{At, Sink}
+use Rattle.uq_shell.proofs.Served.{served_at, served_sink, served_whole}
 use Rattle.uq_shell.proofs.running.serve.Goals as goal
 
-pub returns-in-Ok-clause-serves : goal.returns-in-Ok-clause-serves
-returns-in-Ok-clause-serves g c =
-    let laws : Laws g.D.Disk = record { only_now = g.met.D.Disk.only_now; counts_now = g.met.D.Disk.counts_now } in
-    serves_answer g.D.Disk g.O.Sink laws c.args.command c.args.kv.now c.answer_command.new.kv c.say.new.kv c.in-Ok.answer c.args.out.now c.say.new.out c.say.result
-    c.requires.idle (search rules) c.in-Ok.ensures.does c.in-Ok.ensures.leaves c.say.ensures.says
+pub returns-in-Ok-clause-runs : goal.returns-in-Ok-clause-runs
+returns-in-Ok-clause-runs g c =
+    served_whole g.D.Disk g.I.Source g.O.Sink (limits_of g.D.Disk c.args.kv.now) (map (λ word. word.items) c.args.words.now) c.args.most c.carry_out.new.progress c.args.kv.now c.carry_out.new.kv
+    c.args.input.now c.carry_out.new.input c.args.out.now c.carry_out.new.out c.settle.new.kv c.settle.new.out c.settle.result _ c.requires.idle c.in-Ok.ensures c.settle.ensures
 
-pub returns-in-Err-clause-serves : goal.returns-in-Err-clause-serves
-returns-in-Err-clause-serves g c =
-    let laws : Laws g.D.Disk = record { only_now = g.met.D.Disk.only_now; counts_now = g.met.D.Disk.counts_now } in
-    subst (λ (ended : Ended). Serves g.D.Disk g.O.Sink (request_of c.args.command) c.args.kv.now c.answer_command.new.kv c.args.out.now c.end.new.out ended) (sym c.end.ensures.ended)
-    (serves_cut g.D.Disk g.O.Sink laws c.args.command c.args.kv.now c.answer_command.new.kv c.in-Err.status c.args.out.now c.end.new.out
-    c.requires.idle c.in-Err.ensures.leaves c.end.ensures.line c.end.ensures.later)
+pub returns-in-Err-At-clause-runs : goal.returns-in-Err-At-clause-runs
+returns-in-Err-At-clause-runs g c =
+    let is : c.in-Err-At.field-0 ≡ At c.in-Err-At.status = cc in
+    let carries = subst (λ (s : Stop). CarriesOut g.D.Disk g.I.Source g.O.Sink (limits_of g.D.Disk c.args.kv.now) (map (λ word. word.items) c.args.words.now) c.args.most c.carry_out.new.progress c.args.kv.now
+    c.carry_out.new.kv c.args.input.now c.carry_out.new.input c.args.out.now c.carry_out.new.out (Err s)) is c.in-Err-At.ensures in
+    subst (λ (ended : Ended). RunsOver g.D.Disk g.I.Source g.O.Sink (λ entry. Tells g.D.Disk c.args.kv.now (opened entry)) (limits_of g.D.Disk c.args.kv.now) (map (λ word. word.items) c.args.words.now)
+    c.args.most (disk_of g.D.Disk c.args.kv.now).now (disk_of g.D.Disk c.carry_out.new.kv).now c.args.input.now c.carry_out.new.input c.args.out.now c.end.new.out ended) (sym c.end.ensures.ended)
+    (served_at g.D.Disk g.I.Source g.O.Sink (limits_of g.D.Disk c.args.kv.now) (map (λ word. word.items) c.args.words.now) c.args.most c.carry_out.new.progress c.args.kv.now c.carry_out.new.kv
+    c.args.input.now c.carry_out.new.input c.args.out.now c.carry_out.new.out c.in-Err-At.status c.end.new.out carries c.end.ensures.line c.end.ensures.later)
 
-pub returns-in-Err-clause-line : goal.returns-in-Err-clause-line
-returns-in-Err-clause-line g c =
-    subst (λ (ended : Ended). EndsInLine g.O.Sink c.args.out.now c.end.new.out ended.status) (sym c.end.ensures.ended)
-    (ends_in_line g.O.Sink [] c.args.out.now c.args.out.now c.end.new.out c.in-Err.status refl (grows_nothing (g.O.Sink.written c.args.out.now)) c.end.ensures.line (λ _. refl))
+pub returns-in-Err-Sink-clause-runs : goal.returns-in-Err-Sink-clause-runs
+returns-in-Err-Sink-clause-runs g c =
+    let is : c.in-Err-Sink.field-0 ≡ Sink = cc in
+    let carries = subst (λ (s : Stop). CarriesOut g.D.Disk g.I.Source g.O.Sink (limits_of g.D.Disk c.args.kv.now) (map (λ word. word.items) c.args.words.now) c.args.most c.carry_out.new.progress c.args.kv.now
+    c.carry_out.new.kv c.args.input.now c.carry_out.new.input c.args.out.now c.carry_out.new.out (Err s)) is c.in-Err-Sink.ensures in
+    served_sink g.D.Disk g.I.Source g.O.Sink (limits_of g.D.Disk c.args.kv.now) (map (λ word. word.items) c.args.words.now) c.args.most c.carry_out.new.progress c.args.kv.now c.carry_out.new.kv
+    c.args.input.now c.carry_out.new.input c.args.out.now c.carry_out.new.out carries

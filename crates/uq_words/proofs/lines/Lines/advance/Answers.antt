@@ -6,6 +6,7 @@ use Rattle.uq_words.specs.declared.lines.Step.{Step}
 use Rattle.uq_words.specs.declared.lines.Step.TheVariants.{Line, Last, TooMuch}
 use Rattle.uq_words.proofs.Advancing.{cuts_last, cuts_line, found_since, most_on, no_feed_left, none_on, room_on, stops_at, stops_full, within_on}
 use Rattle.uq_words.proofs.Pieces.{going_here, going_on, takes_fault, takes_full, takes_last, takes_line, takes_on}
+use Rattle.uq_words.proofs.Shorter.{cuts_shorter}
 use Rattle.uq_words.proofs.lines.Lines.advance.Goals as goal
 
 pub pieces-init : goal.pieces-init
@@ -83,6 +84,32 @@ returns-then-branch-eq0-clause-takes g c =
     takes_on g.I.Source c.args.self.now c.args.input.now c.pieces.self c.pieces.input c.pieces.invariant.going (Ok Last) c.cut-then-branch-eq0.new.self c.fill.new.input
     (takes_last g.I.Source c.pieces.self c.fill.new.self c.cut-then-branch-eq0.new.self c.pieces.input c.fill.new.input c.in_ok-fill.field-0 c.in_ok-fill.ensures c.if-branch-eq0.true
     c.cut-then-branch-eq0.ensures.room)
+
+pub returns-then-end-len-clause-shorter : goal.returns-then-end-len-clause-shorter
+returns-then-end-len-clause-shorter g c = λ _.
+    let place = c.line_end-end.ensures.place in
+    let less = c.if-end-len.true in
+    let all = c.len.ensures in
+    let most = c.pieces.invariant.most in
+    let here = cuts_shorter c.pieces.self c.cut.new.self c.line_end-end.result (omega arith) (omega arith) c.cut.ensures in
+    omega arith
+
+pub returns-then-searched-clause-shorter : goal.returns-then-searched-clause-shorter
+returns-then-searched-clause-shorter g c = λ is.
+    let most = c.pieces.invariant.most in
+    let here = c.skip.ensures.shorter is in
+    omega arith
+
+pub returns-then-self-eq0-clause-shorter : goal.returns-then-self-eq0-clause-shorter
+returns-then-self-eq0-clause-shorter g c = λ is. absurd (cc)
+
+pub returns-in_err-fill-clause-shorter : goal.returns-in_err-fill-clause-shorter
+returns-in_err-fill-clause-shorter g c =
+    let p = err_from_is_err_and c.from_residual.result c.from_residual.ensures.1 in
+    λ is. absurd (cc)
+
+pub returns-then-branch-eq0-clause-shorter : goal.returns-then-branch-eq0-clause-shorter
+returns-then-branch-eq0-clause-shorter g c = λ is. absurd (cc)
 
 pub pieces-smaller : goal.pieces-smaller
 pieces-smaller g c =

@@ -4,13 +4,15 @@ use Rattle.uq_words.specs.Taking.{Passes, text_of}
 use Rattle.uq_words.specs.declared.error.InputFault.{InputFault}
 use Rattle.uq_words.specs.declared.lines.Step.{Step}
 use Rattle.uq_words.specs.declared.lines.Step.TheVariants.{Line, Last, TooMuch}
-use Rattle.uq_words.proofs.Advancing.{no_feed_left, passes_fault, passes_full, passes_last, passes_line, passing_here, passing_on, passing_still, room_on, unkept}
+use Rattle.uq_words.proofs.Advancing.{most_on, no_feed_left, passes_fault, passes_full, passes_last, passes_line, passing_here, passing_on, passing_still, room_on, unkept}
 use Rattle.uq_words.proofs.Pieces.{going_here, going_on, going_still, takes_fault, takes_full, takes_last, takes_line, takes_on}
+use Rattle.uq_words.proofs.Shorter.{clears, goes_behind}
 use Rattle.uq_words.proofs.lines.Lines.skip.Goals as goal
 
 pub pieces-init : goal.pieces-init
 pieces-init g c = record {
   passing = λ none long. passing_here g.I.Source c.args.self.now c.args.input.now none long;
+  most = omega arith;
   going = going_here g.I.Source c.args.self.now c.args.input.now;
 }
 
@@ -71,6 +73,28 @@ returns-then-end-len-clause-takes g c =
     c.fill.new.self c.fill.new.input c.in_ok-fill.field-0 c.in_ok-fill.ensures (let some = c.if-branch-eq0.false in omega arith))
     (Ok Line) _ c.fill.new.input (takes_line g.I.Source c.fill.new.self _ c.fill.new.input refl)
 
+pub returns-then-self-eq0-clause-shorter : goal.returns-then-self-eq0-clause-shorter
+returns-then-self-eq0-clause-shorter g c = λ is. absurd (cc)
+
+pub returns-in_err-fill-clause-shorter : goal.returns-in_err-fill-clause-shorter
+returns-in_err-fill-clause-shorter g c =
+    let p = err_from_is_err_and c.from_residual.result c.from_residual.ensures.1 in
+    λ is. absurd (cc)
+
+pub returns-then-branch-eq0-clause-shorter : goal.returns-then-branch-eq0-clause-shorter
+returns-then-branch-eq0-clause-shorter g c = λ is. absurd (cc)
+
+pub returns-then-end-len-clause-shorter : goal.returns-then-end-len-clause-shorter
+returns-then-end-len-clause-shorter g c = λ _.
+    let place = c.line_end-end.ensures.place in
+    let less = c.if-end-len.true in
+    let all = c.len.ensures in
+    let none = clears c.pieces.self c.clear.new.self c.clear.ensures in
+    let more = most_on g.I.Source c.clear.new.self c.fill.new.self c.pieces.input c.fill.new.input c.in_ok-fill.field-0 c.in_ok-fill.ensures in
+    let most = c.pieces.invariant.most in
+    let here = goes_behind c.fill.new.self.bytes.items c.fill.new.self.next c.line_end-end.result c.fill.new.self.room (omega arith) (omega arith) in
+    omega arith
+
 pub pieces-smaller : goal.pieces-smaller
 pieces-smaller g c =
     let room = c.clear.ensures.room in
@@ -87,6 +111,11 @@ pieces-preserved g c =
           (passing_still g.I.Source c.args.self.now c.pieces.self c.args.input.now c.pieces.input (c.pieces.invariant.passing none long) c.clear.new.self c.clear.ensures.room)
           c.clear.ensures.pending c.fill.new.self c.fill.new.input c.in_ok-fill.field-0 c.in_ok-fill.ensures
           (no_feed_left c.fill.new.self c.line_end-end.result c.line_end-end.ensures.place (omega arith));
+      most =
+          let none = clears c.pieces.self c.clear.new.self c.clear.ensures in
+          let more = most_on g.I.Source c.clear.new.self c.fill.new.self c.pieces.input c.fill.new.input c.in_ok-fill.field-0 c.in_ok-fill.ensures in
+          let most = c.pieces.invariant.most in
+          omega arith;
       going = going_on g.I.Source c.args.self.now c.args.input.now c.clear.new.self c.pieces.input
           (going_still g.I.Source c.args.self.now c.args.input.now c.pieces.self c.pieces.input c.pieces.invariant.going c.clear.new.self c.clear.ensures.room)
           c.fill.new.self c.fill.new.input c.in_ok-fill.field-0 c.in_ok-fill.ensures (let some = c.if-branch-eq0.false in omega arith);

@@ -1,6 +1,6 @@
-use Rattle.std.proofs.Common.{◌<◌, ◌+◌, length}
+use Rattle.std.proofs.Common.{◌<◌, ◌≤◌, ◌+◌, length}
 use Rattle.uq_words.specs.Lines.{HasNoFeed, longest}
-use Rattle.uq_words.specs.Taking.{Going, Passing, pending}
+use Rattle.uq_words.specs.Taking.{Going, Passing, most_of, pending}
 use Rattle.uq_words.proofs.lines.Lines.skip.Given as goal
 
 abbrev pub decreases-pieces : goal.decreases-pieces
@@ -10,5 +10,6 @@ decreases-pieces g l = l.self.room
 abbrev pub invariant-pieces : goal.invariant-pieces
 invariant-pieces g l = record {
   passing : HasNoFeed (pending l.fn.self) → longest + 1 < length (pending l.fn.self) → Passing g.I.Source l.fn.self l.fn.input l.self l.input;
+  most : most_of l.self ≤ most_of l.fn.self;
   going : Going g.I.Source l.fn.self l.fn.input l.self l.input;
 }

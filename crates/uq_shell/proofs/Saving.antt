@@ -1,0 +1,90 @@
+-- What a command saves.
+use Rattle.std.proofs.Common.{◌≡◌, ℕ, Bool, true, false, if◌then◌else◌, List, ◌++◌, Result, Ok, Err, refl, sym, ap, ◌∙◌}
+use Rattle.std.specs.FinMap.{contains_key, get, insert, remove}
+use Rattle.uq_hash.specs.Looks.{value_or_none}
+use Rattle.uq_model.specs.Session.{Call, Session, opened, with_present}
+use Rattle.uq_model.specs.declared.limits.Limits.{Limits}
+use Rattle.uq_kv.specs.Calls.{appends, behind, deletes, fetches, puts, stores, takes}
+use Rattle.uq_kv.specs.Full.{is_too_much}
+use Rattle.uq_kv.specs.Lengths.{entry_checked, key_checked, value_checked}
+use Rattle.uq_kv.specs.Stored.{Stored, stored_key}
+use Rattle.uq_kv.specs.declared.error.KvFault.{KvFault}
+use Rattle.uq_kv.specs.declared.error.KvFault.TheVariants.{Full, NotFound}
+use Rattle.uq_kv.specs.declared.space.Space.TheVariants.{Keys}
+use Rattle.uq_json.specs.Quote.{quoted}
+use Rattle.uq_shell.specs.Answers.{request_of}
+use Rattle.uq_shell.specs.Commands.{refused_by, said_at, saying}
+use Rattle.uq_shell.specs.Replies.{Said, says, says_ok, taken_as}
+use Rattle.uq_shell.specs.declared.command.Command.{Command}
+use Rattle.uq_shell.specs.declared.command.Command.TheVariants as command
+use Rattle.uq_shell.specs.declared.reply.Refusal.{Refusal}
+use Rattle.uq_shell.specs.declared.status.Status.{Status}
+use Rattle.uq_shell.proofs.Moving.{SavesBy}
+
+-- ---- no commit stands before the reply
+
+refused_none : (refused : Result Refusal Status) → (refused_by refused).commits ≡ false
+refused_none (Ok refusal) = refl
+refused_none (Err status) = refl
+
+said_none : {T : Type 0} (say : T → Said) → ((value : T) → (say value).commits ≡ false) → (answer : Result T KvFault) → (said_at say answer).commits ≡ false
+said_none say none (Ok value) = none value
+said_none say none (Err fault) = refused_none (taken_as fault)
+
+-- a call that saves nothing, with what is said of it
+kept_by : {T : Type 0} (say : T → Said) (call : Call Stored (Result T KvFault)) (s : Session Stored) → ((value : T) → (say value).commits ≡ false) → (call s).1.saved ≡ s.saved
+    → SavesBy (saying say call s).0.commits s (saying say call s).1
+kept_by say call s none kept = kept ∙ sym (ap (λ (b : Bool). if b then s.present else s.saved) (said_none say none (call s).0))
+
+-- ---- the calls that save nothing
+
+behind_saved : {T : Type 0} (checked : Result (Unit {0}) KvFault) (call : Call Stored (Result T KvFault)) (s : Session Stored) → (call s).1.saved ≡ s.saved → (behind checked call s).1.saved ≡ s.saved
+behind_saved (Err fault) call s kept = refl
+behind_saved (Ok done) call s kept = kept
+
+put_if : (too_much : Bool) (s : Session Stored) (store : Stored)
+    → (if◌then◌else◌ {A = Result (Unit {0}) KvFault × Session Stored} too_much (Err Full, s) (Ok tt, with_present store s)).1.saved ≡ s.saved
+put_if true s store = refl
+put_if false s store = refl
+
+put_saved : (limits : Limits) (key value : List ℕ) (s : Session Stored) → (puts limits Keys key value s).1.saved ≡ s.saved
+put_saved limits key value s = put_if (is_too_much limits Keys key value s.present) s (insert s.present (stored_key Keys key) value)
+
+take_if : (there : Bool) (s : Session Stored) (store : Stored)
+    → (if◌then◌else◌ {A = Result (Unit {0}) KvFault × Session Stored} there (Ok tt, with_present store s) (Err NotFound, s)).1.saved ≡ s.saved
+take_if true s store = refl
+take_if false s store = refl
+
+take_saved : (key : List ℕ) (s : Session Stored) → (takes NotFound key s).1.saved ≡ s.saved
+take_saved key s = take_if (contains_key s.present key) s (remove s.present key)
+
+append_saved : (limits : Limits) (key more : List ℕ) (s : Session Stored) → (appends limits Keys key more s).1.saved ≡ s.saved
+append_saved limits key more s =
+    let data_after : List ℕ = value_or_none (get s.present (stored_key Keys key)) ++ more in
+    behind_saved (key_checked key) (λ (it : Session Stored).
+    behind (value_checked (value_or_none (get it.present (stored_key Keys key)) ++ more)) (puts limits Keys key (value_or_none (get it.present (stored_key Keys key)) ++ more)) it) s
+    (behind_saved (value_checked data_after) (puts limits Keys key data_after) s (put_saved limits key data_after s))
+
+-- ---- commit and rollback
+
+committed_saved : (b : Bool) (s : Session Stored) → (if b then opened s.present else s).saved ≡ (if b then s.present else s.saved)
+committed_saved true s = refl
+committed_saved false s = refl
+
+rolled_back_saved : (b : Bool) (s : Session Stored) → (if b then opened s.saved else s).saved ≡ s.saved
+rolled_back_saved true s = refl
+rolled_back_saved false s = refl
+
+-- what is there is saved where a commit stands before the reply, and nothing where none does
+pub saves_by : (it : Command) (limits : Limits) (s : Session Stored) → SavesBy ((request_of it).does limits s).0.commits s ((request_of it).does limits s).1
+saves_by (command.Store key value) limits s =
+    kept_by (λ _. says_ok) (stores limits Keys key.now value.now) s (λ _. refl) (behind_saved (entry_checked key.now value.now) (puts limits Keys key.now value.now) s (put_saved limits key.now value.now s))
+saves_by (command.Append key more) limits s = kept_by (λ _. says_ok) (appends limits Keys key.now more.now) s (λ _. refl) (append_saved limits key.now more.now s)
+saves_by (command.Fetch key) limits s =
+    kept_by (λ found. says (quoted found)) (fetches Keys key.now) s (λ _. refl) (behind_saved (key_checked key.now) _ s refl)
+saves_by (command.Delete key) limits s =
+    kept_by (λ _. says_ok) (deletes Keys key.now) s (λ _. refl) (behind_saved (key_checked key.now) (takes NotFound (stored_key Keys key.now)) s (take_saved (stored_key Keys key.now) s))
+saves_by command.Begin limits s = refl
+saves_by command.Commit limits s = committed_saved s.begun s
+saves_by command.Rollback limits s = rolled_back_saved s.begun s
+saves_by (command.Refused refusal) limits s = refl

@@ -1,0 +1,90 @@
+-- What a run leaves at the end of its words or its input, or where it is cut short.
+use Rattle.std.specs.Prelude.{◌≡◌, ◌≤◌, ◌<◌, ◌^◌, ◌++◌, ℕ, true, List, [], ◌∷◌, length, Some, None, Result, Ok, Err, OnOk, IfErr, IsTrue}
+use Rattle.std.specs.Option.{ForSome}
+use Rattle.uq_facts.specs.Causes.{Rose}
+use Rattle.uq_outside.specs.declared.disk.Disk as disk
+use Rattle.uq_outside.specs.declared.sink.Sink as sink
+use Rattle.uq_outside.specs.declared.source.Source as source
+use Rattle.uq_model.specs.Session.{opened}
+use Rattle.uq_model.specs.declared.limits.Limits.{Limits}
+use Rattle.uq_kv.specs.declared.kv.Kv.{Kv}
+use Rattle.uq_kv.specs.Kv.{Tells, closed_of, disk_of}
+use Rattle.uq_kv.specs.Stored.{Stored}
+use Rattle.uq_words.specs.Taking.{Took}
+use Rattle.uq_shell.specs.Commands.{request}
+use Rattle.uq_shell.specs.Obeys.{PutsNone, ReadsBy, at_start}
+use Rattle.uq_shell.specs.Reached.{CutShort, IsTold, Reached, StandsBy, is_of_run}
+use Rattle.uq_shell.specs.Run.{Outcome}
+use Rattle.uq_shell.specs.Stream.{State, at_end, followed, start}
+use Rattle.uq_shell.specs.declared.progress.Progress.{Progress}
+use Rattle.uq_shell.specs.declared.progress.Stop.{Stop}
+use Rattle.uq_shell.specs.declared.progress.Stop.TheVariants.{At}
+use Rattle.uq_shell.specs.declared.status.Status.TheVariants.{Stream, NotDatabase, TooMuchInput}
+
+-- ---- the input
+
+module _ {I : Type 0} (i : source.Ghosts I) where
+  -- it was read to its end
+  pub record IsReadWhole (in_old in_new : I) : Type 0 where
+    pub ended : i.ended in_new ≡ true
+    pub left : ForSome (i.left in_old) (λ bytes. i.left in_new ≡ Some [])
+
+  -- or so many bytes of it were taken, and no end was told
+  pub record IsCutOff (most : ℕ) (in_old in_new : I) : Type 0 where
+    pub taken : Took most (i.taken in_old) (i.taken in_new)
+    pub not_ended : i.ended in_new ≡ true → ⊥
+
+  -- P of the bytes that were taken
+  abbrev pub OfTaken : List ℕ → I → (List ℕ → Type 0) → Type 0
+  OfTaken bytes in_new P = (taken : List ℕ) × (rest : List ℕ) × (bytes ≡ taken ++ rest) × (i.left in_new ≡ Some rest) × P taken
+
+  pub record DrawsBy (most : ℕ) (in_old in_new : I) (result : Result (Unit {0}) Stop) : Type 0 where
+    pub later : i.faults in_old ≤ i.faults in_new
+    pub whole : OnOk result (IsReadWhole in_old in_new)
+    pub source : result ≡ Err (At Stream) → Rose (i.faults in_old) (i.faults in_new)
+    pub too_much : result ≡ Err (At TooMuchInput) → IsCutOff most in_old in_new
+
+-- ---- the run
+
+module _ {D O : Type 0} (g : disk.Ghosts D) (o : sink.Ghosts O) where
+  -- What this run means was done up to the end of the input, or in part.
+  abbrev pub CarriedBy : Result (Unit {0}) Stop → Stored → Outcome → Progress → D → Kv D g → O → O → Type 0
+  CarriedBy (Ok done) entry run at disk_first kv out_first out = (state : State) × Reached g o entry state at disk_first kv out_first out × (at_end state ≡ run)
+  CarriedBy (Err stop) entry run at disk_first kv out_first out =
+      CutShort g o entry run.events stop at disk_first kv out_first out
+      × (stop ≡ At TooMuchInput → (run.status ≡ TooMuchInput) × (at.done ≡ length run.events))
+
+  -- The run of what is stored at entry and of an input that is read where `reads` says so; nothing was done before.
+  pub record Carries (reads : List ℕ → Type 0) (run : Stored → List ℕ → Outcome) (now : Progress) (old new : Kv D g) (out_old out_new : O)
+      (result : Result (Unit {0}) Stop) : Type 0 where
+    pub same_reference : (disk_of g new).ghost_name ≡ (disk_of g old).ghost_name
+    pub unclosed : OnOk result (closed_of g new ≡ None)
+    pub few : OnOk result (now.done < 2 ^ 66)
+    pub within : IfErr result (λ stop. IsTrue (is_of_run stop))
+    pub stands : StandsBy g o result now (disk_of g old).now new out_old out_new
+    pub not_database : result ≡ Err (At NotDatabase) → IsTold g o old → ⊥
+    pub told : (entry : Stored) (bytes : List ℕ) → Tells g old (opened entry) → reads bytes
+        → CarriedBy result entry (run entry bytes) now (disk_of g old).now new out_old out_new
+
+module _ {D I O : Type 0} (g : disk.Ghosts D) (i : source.Ghosts I) (o : sink.Ghosts O) where
+  -- Where the source failed, the events that are done are those of the bytes taken, as a run has them that reads no more.
+  abbrev pub StopsBehind : (List ℕ → Type 0) → (Stored → ℕ → List ℕ → Outcome) → Progress → Kv D g → I → Result (Unit {0}) Stop → Type 0
+  StopsBehind reads run now old in_new result =
+      result ≡ Err (At Stream) → (entry : Stored) (bytes : List ℕ) → Tells g old (opened entry) → reads bytes
+      → OfTaken i bytes in_new (λ taken. now.done ≡ length (run entry (length taken) taken).events)
+
+  -- what words ask for, or the input where there are none
+  pub record CarriesOut (limits : Limits) (words : List (List ℕ)) (most : ℕ) (now : Progress) (old new : Kv D g) (in_old in_new : I)
+      (out_old out_new : O) (result : Result (Unit {0}) Stop) : Type 0 where
+    pub carries : Carries g o (λ bytes. words ≡ [] → i.left in_old ≡ Some bytes) (λ entry bytes. followed limits (start entry) words most bytes)
+        now old new out_old out_new result
+    pub behind : StopsBehind (λ bytes. words ≡ [] → i.left in_old ≡ Some bytes) (λ entry count bytes. followed limits (start entry) words count bytes)
+        now old in_new result
+    -- the words of a command take nothing of the input
+    pub unread : (words ≡ [] → ⊥) → in_new ≡ in_old
+    pub later : i.faults in_old ≤ i.faults in_new
+    pub whole : words ≡ [] → OnOk result (IsReadWhole i in_old in_new)
+    pub source : result ≡ Err (At Stream) → Rose (i.faults in_old) (i.faults in_new)
+    pub too_much : result ≡ Err (At TooMuchInput) → IsCutOff i most in_old in_new
+    pub reads : (name : List ℕ) (others : List (List ℕ)) → words ≡ name ∷ others → ReadsBy g o (request words) old new
+    pub silent : (words ≡ [] → ⊥) → PutsNone g o result at_start now out_old out_new
