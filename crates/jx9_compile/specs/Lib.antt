@@ -3,6 +3,12 @@ pub mod Run
 pub mod Shape
 pub mod Assembled
 pub mod Heights
+pub mod Slots
+pub mod Emitted
+pub mod Correct
+pub mod Problems
+pub mod Holes
+pub mod Emits
 pub mod Laws
 pub mod Runs
 pub mod Rows

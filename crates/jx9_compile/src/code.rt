@@ -33,6 +33,15 @@ impl Code {
         })
     }
 
+    /// Code of functions that are known to be good.
+    pub(crate) fn of(functions: Vec<Function>) -> Code
+        ensures { result ≡ record { functions = functions.items } }
+    {
+        Code {
+            functions: Items::from_vec(functions),
+        }
+    }
+
     /// The functions, in order.
     pub fn functions(&self) -> &[Function]
         ensures { result.now ≡ self.now.functions }

@@ -27,6 +27,13 @@ impl Function {
         }
     }
 
+    /// The same of a list of ops.
+    pub(crate) fn of(params: u32, slots: u32, ops: Items<Op>) -> Function
+        ensures { result ≡ record { params = params; slots = slots; ops = ops } }
+    {
+        Function { params, slots, ops }
+    }
+
     /// So many parameters it has.
     pub fn params(&self) -> u32
         ensures { result ≡ self.now.params }

@@ -3,16 +3,24 @@
 
 mod checking;
 mod code;
+#[cfg(test)]
+mod compiler_tests;
+mod compiling;
+mod emitting;
 mod error;
+mod expressions;
 mod function;
 mod heights;
 mod laws;
 mod op;
+mod problems;
+mod statements;
 #[cfg(test)]
 mod tests;
 
 pub use code::Code;
-pub use error::CodeFault;
+pub use compiling::compile;
+pub use error::{CodeFault, CompileFault, CompileKind};
 pub use function::Function;
 pub use laws::{code_ends_once, code_rows, every_code_ends};
 pub use op::Op;
