@@ -1,6 +1,6 @@
 -- What stands in a clean tree is clean.
-use Rattle.std.proofs.Common.{◌≡◌, ℕ, zero, suc, ◌<◌, List, [], ◌∷◌, ◌++◌, length, Option, Some, None, refl, sym, ap, ◌∙◌, subst, inl, inr, true≢false}
-use Rattle.std.specs.Prelude.{Bool, true, false, ◌||◌, map, slice_get}
+use Rattle.std.proofs.Common.{◌≡◌, ℕ, suc, List, [], ◌∷◌, ◌++◌, Some, refl, sym, ap, ◌∙◌, subst, true≢false}
+use Rattle.std.specs.Prelude.{Bool, true, false, ◌||◌, slice_get}
 use Rattle.std.proofs.lemmas.Option.{slice_get_within}
 use Rattle.jx9_syntax.specs.Trees.{ExprLayer, StatementLayer, node_of, kind_of}
 use Rattle.jx9_syntax.specs.declared.expression.Access.{Access}
@@ -8,10 +8,9 @@ use Rattle.jx9_syntax.specs.declared.expression.Expr.{Expr}
 use Rattle.jx9_syntax.specs.declared.expression.Link.{Link}
 use Rattle.jx9_syntax.specs.declared.statement.Branch.{Branch}
 use Rattle.jx9_syntax.specs.declared.statement.Statement.{Statement}
-use Rattle.jx9_compile.specs.Problems.{problem, are_none, is_built, exprs_within, ExprProblem, itself, within, IsIn, operands_of, is_built_statement, leaves_turn, is_loop, exprs_in, statements_in, tests_of, bodies_of, StatementProblem, unbuilt, outside, in_expr, in_statement, IsInStatements, IsCleanExpr, AreCleanExprs, IsCleanStatement, AreCleanStatements}
+use Rattle.jx9_compile.specs.Problems.{problem, are_none, is_built, exprs_within, itself, within, operands_of, is_built_statement, leaves_turn, is_loop, exprs_in, statements_in, tests_of, bodies_of, StatementProblem, unbuilt, outside, in_expr, in_statement, IsCleanExpr, AreCleanExprs, IsCleanStatement, AreCleanStatements}
 use Rattle.jx9_compile.specs.declared.error.CompileKind.TheVariants.{NotBuilt, BreakOutside}
-use Rattle.jx9_compile.specs.declared.problems.Problem.{Problem}
-use Rattle.jx9_compile.proofs.Places.{slice_get-front, slice_get-seam}
+use Rattle.jx9_compile.proofs.Places.{slice_get-front}
 
 pub slice_get-into : {A : Type 0} (xs ys : List A) (i : ℕ) (y : A) → slice_get ys i ≡ Some y → (j : ℕ) × (slice_get (xs ++ ys) j ≡ Some y)
 slice_get-into [] ys i y h = (i, h)

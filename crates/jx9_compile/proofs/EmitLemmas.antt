@@ -1,6 +1,6 @@
 -- One part of the compiler after another.
 use Rattle.std.proofs.Common.{◌≡◌, ℕ, zero, suc, ◌+◌, ◌<◌, ◌≤◌, List, [], ◌∷◌, ◌++◌, length, get_or, take, Option, Some, None, refl, sym, ap, ◌∙◌, subst, arith, length-append, length-set, true≢false}
-use Rattle.std.specs.Prelude.{Bool, true, false, not, cond, is_some, IsNone, slice_get, slice_set, position}
+use Rattle.std.specs.Prelude.{Bool, true, false, not, cond, IsNone, slice_get, slice_set, position}
 use Rattle.std.specs.List.{position_or_len}
 use Rattle.std.specs.Str.{bytes_eq}
 use Rattle.std.proofs.lemmas.Bool.{ltb-false, false_from_ne_true}
@@ -14,12 +14,11 @@ use Rattle.jx9_syntax.specs.declared.expression.Link.{Link}
 use Rattle.jx9_syntax.specs.declared.parts.Part.{Part}
 use Rattle.jx9_syntax.specs.declared.statement.Statement.{Statement}
 use Rattle.jx9_compile.specs.Emitted.{Loop}
-use Rattle.jx9_compile.specs.Emits.{IsSame, Stands, IsOp, IsSlot, IsMove, AreParts, IsExpr, AreValues, AreLinks, IsEffect, AreEffects, ArePrints, loop_of, IsStatement, IsSequence, IsTurn, Held, nothing_held, piece_held, AreHeld, Emits, IsHeld, IsSet}
-use Rattle.jx9_compile.specs.Holes.{hole, Misses}
+use Rattle.jx9_compile.specs.Emits.{IsSame, Stands, IsOp, IsSlot, AreParts, IsExpr, AreValues, AreLinks, IsEffect, AreEffects, ArePrints, loop_of, IsStatement, IsSequence, IsTurn, Held, nothing_held, piece_held, AreHeld, Emits, IsHeld, IsSet}
+use Rattle.jx9_compile.specs.Holes.{Misses}
 use Rattle.jx9_compile.specs.Slots.{IsAbsent, AreDistinct, KeepsSlots}
 use Rattle.jx9_compile.specs.declared.emitting.Emitter.{Emitter}
 use Rattle.jx9_compile.specs.declared.op.Op.{Op}
-use Rattle.jx9_compile.specs.declared.op.Op.TheVariants.{Jump}
 use Rattle.jx9_compile.proofs.Carried.{Carries, WaysOf, parts_carried, expr_carried, values_carried, links_carried, prints_carried, effect_carried, effects_carried, statement_carried, sequence_carried}
 use Rattle.jx9_compile.proofs.Places.{slice_get-front, slice_get-seam, slice_get-set_other, slice_get-set_same}
 

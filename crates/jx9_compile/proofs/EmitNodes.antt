@@ -1,5 +1,5 @@
 -- What each kind of expression adds.
-use Rattle.std.proofs.Common.{◌≡◌, ℕ, zero, suc, ◌+◌, ◌<◌, ◌≤◌, List, [], ◌∷◌, ◌++◌, length, get_or, take, Option, Some, None, refl, sym, ap, ◌∙◌, subst, arith, ⊎_elim, length-set}
+use Rattle.std.proofs.Common.{◌≡◌, ℕ, zero, suc, ◌+◌, ◌<◌, ◌≤◌, List, [], ◌∷◌, ◌++◌, length, get_or, take, Some, None, refl, sym, ap, ◌∙◌, subst, arith, ⊎_elim, length-set}
 use Rattle.std.specs.Prelude.{Bool, true, false, not, pos, slice_get}
 use Rattle.std.proofs.lemmas.Option.{same_Some}
 use Rattle.uq_value.specs.Data.{Bytes}
@@ -7,7 +7,7 @@ use Rattle.uq_value.specs.declared.value.Value.{Value}
 use Rattle.jx9_syntax.specs.Trees.{ExprLayer, node_of}
 use Rattle.jx9_syntax.specs.declared.expression.Access.{Access}
 use Rattle.jx9_syntax.specs.declared.expression.Access.TheOpen.{Node-F}
-use Rattle.jx9_syntax.specs.declared.expression.Access.TheViews.{out-roll-Node, roll-out-Node, rolls-Literal, rolls-Mixed, rolls-Group, rolls-Negate, rolls-Not, rolls-Step, rolls-Or, rolls-And, rolls-Join, rolls-Chain, rolls-Cond, rolls-Var, rolls-Assign}
+use Rattle.jx9_syntax.specs.declared.expression.Access.TheViews.{out-roll-Node, rolls-Literal, rolls-Mixed, rolls-Group, rolls-Negate, rolls-Not, rolls-Step, rolls-Or, rolls-And, rolls-Join, rolls-Chain, rolls-Cond, rolls-Var, rolls-Assign}
 use Rattle.jx9_syntax.specs.declared.expression.Binary.TheVariants as binary
 use Rattle.jx9_syntax.specs.declared.expression.Expr.{Expr}
 use Rattle.jx9_syntax.specs.declared.expression.Link.{Link}
@@ -19,7 +19,7 @@ use Rattle.jx9_syntax.specs.declared.expression.Step.{Step}
 use Rattle.jx9_syntax.specs.declared.parts.Part.{Part}
 use Rattle.jx9_syntax.specs.declared.parts.Part.TheVariants as part
 use Rattle.jx9_meaning.specs.Expression.{literal_value}
-use Rattle.jx9_compile.specs.Emits.{IsSame, IsOp, IsSlot, IsMove, AreParts, IsExpr, IsBehind, AreValues, AreLinks, IsEffect, AreEffects, AreHeld, Held, nothing_held, piece_held, Emits, IsHeld, IsSet, IsElse, IsLanded, IsDecided}
+use Rattle.jx9_compile.specs.Emits.{IsOp, IsSlot, IsMove, AreParts, IsExpr, IsBehind, AreValues, AreLinks, IsEffect, AreEffects, AreHeld, Held, nothing_held, piece_held, Emits, IsHeld, IsSet, IsElse, IsLanded, IsDecided}
 use Rattle.jx9_compile.specs.Emitted.{operator_op, jump_where, variable_place, PartsCode, no_parts, text_part, variable_part, ExprCode, literal_code, mixed_code, variable_code, group_code, negate_code, not_code, step_code, or_code, and_code, join_code, chain_code, choice_code, assign_code, AllCode, no_values, value_code, DecidingCode, no_operands, operand_code, LinksCode, no_links, link_code, EffectCode, dropped_code, moved_code, EffectsCode, no_effects, effect_code}
 use Rattle.jx9_compile.specs.Holes.{hole, Misses, AreSet}
 use Rattle.jx9_compile.specs.Problems.{is_built, operands_of, IsCleanExpr, AreCleanExprs}
@@ -27,10 +27,9 @@ use Rattle.jx9_compile.specs.Slots.{KeepsSlots, AreDistinct}
 use Rattle.jx9_compile.specs.declared.emitting.Emitter.{Emitter}
 use Rattle.jx9_compile.specs.declared.op.Op.{Op}
 use Rattle.jx9_compile.specs.declared.op.Op.TheVariants.{Unit as OneUnit, Push, Pop, Copy, Load, Assign, Count, Operate, Not, Join, Jump, JumpUnless}
-use Rattle.jx9_compile.proofs.Carried.{expr_carried}
 use Rattle.jx9_compile.proofs.Clean.{clean_head, clean_tail, clean_front, clean_last, clean_within, clean_built, no_steps, operands_append}
 use Rattle.jx9_compile.proofs.Places.{slice_get-set_other, slice_get-set_same, missed_above, found_or_missed}
-use Rattle.jx9_compile.proofs.EmitLemmas.{Stable, Then, Ahead, ahead_stable, filled_in, emits_then, emits_as, emits_here, emits_nothing, one_more, narrow, carries_same, op_stable, slot_stable, parts_stable, expr_stable, values_stable, links_stable, effect_stable, effects_stable, held_stable, held_rises, held_between, held_misses, same_slots}
+use Rattle.jx9_compile.proofs.EmitLemmas.{Then, Ahead, ahead_stable, filled_in, emits_then, emits_as, emits_nothing, one_more, op_stable, slot_stable, parts_stable, expr_stable, values_stable, links_stable, effects_stable, held_rises, held_between, held_misses, same_slots}
 
 -- a node by its layer, from what a match tells
 pub open_node : {n m : Node} (layer : ExprLayer) → n ≡ m → roll-Node layer ≡ m → out-Node n ≡ layer

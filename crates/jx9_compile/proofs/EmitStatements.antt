@@ -1,6 +1,6 @@
 -- What each kind of statement adds.
-use Rattle.std.proofs.Common.{◌≡◌, ℕ, zero, suc, ◌+◌, ◌<◌, ◌≤◌, List, [], ◌∷◌, ◌++◌, length, get_or, take, Option, Some, None, refl, sym, ap, ◌∙◌, subst, arith, inl, inr, true≢false}
-use Rattle.std.specs.Prelude.{Bool, true, false, is_some, slice_get, slice_set}
+use Rattle.std.proofs.Common.{◌≡◌, ℕ, suc, ◌+◌, ◌<◌, ◌≤◌, List, [], ◌∷◌, ◌++◌, length, get_or, take, Option, Some, None, refl, sym, ap, ◌∙◌, subst, arith, true≢false}
+use Rattle.std.specs.Prelude.{Bool, true, false, is_some, slice_get}
 use Rattle.uq_value.specs.Data.{Bytes}
 use Rattle.uq_value.specs.declared.value.Value.{Value}
 use Rattle.jx9_syntax.specs.Trees.{StatementLayer, kind_of}
@@ -9,20 +9,20 @@ use Rattle.jx9_syntax.specs.declared.statement.Branch.{Branch}
 use Rattle.jx9_syntax.specs.declared.statement.Kind.{Kind, out-Kind, roll-Kind}
 use Rattle.jx9_syntax.specs.declared.statement.Kind as kind
 use Rattle.jx9_syntax.specs.declared.statement.Kind.TheOpen.{Kind-F}
-use Rattle.jx9_syntax.specs.declared.statement.Kind.TheViews.{out-roll-Kind, roll-out-Kind, rolls-Block, rolls-Print, rolls-Expr, rolls-If, rolls-While, rolls-For, rolls-Return, rolls-Break, rolls-Continue}
+use Rattle.jx9_syntax.specs.declared.statement.Kind.TheViews.{out-roll-Kind, rolls-Block, rolls-Print, rolls-Expr, rolls-If, rolls-While, rolls-For, rolls-Return, rolls-Break, rolls-Continue}
 use Rattle.jx9_syntax.specs.declared.statement.Statement.{Statement}
-use Rattle.jx9_compile.specs.Emits.{IsSame, IsOp, IsExpr, IsEffect, AreEffects, ArePrints, loop_of, IsStatement, IsSequence, IsBranch, IsOther, IsTurn, AreTurns, IsOpening, IsLeaving, IsGoingOn, Held, nothing_held, piece_held, AreHeld, Emits, IsHeld, IsElse, IsLanded, AreAllLanded}
+use Rattle.jx9_compile.specs.Emits.{IsOp, IsExpr, IsEffect, AreEffects, ArePrints, loop_of, IsStatement, IsSequence, IsBranch, IsOther, IsTurn, AreTurns, IsOpening, IsLeaving, IsGoingOn, Held, nothing_held, piece_held, AreHeld, Emits, IsHeld, IsElse, IsLanded, AreAllLanded}
 use Rattle.jx9_compile.specs.Emitted.{Loop, ExprCode, EffectCode, EffectsCode, no_effects, PrintsCode, no_prints, print_code, TestCode, no_test, test_code, StatementCode, block_code, print_statement, expr_statement, if_code, while_code, for_code, break_code, continue_code, return_code, return_null_code, SequenceCode, no_statements, statement_code, BranchesCode, no_branch, other_branch, branch_code, LoopCode, loop_code}
 use Rattle.jx9_compile.specs.Holes.{hole, IsKnown, IsFilled, Misses}
-use Rattle.jx9_compile.specs.Problems.{exprs_of, statements_of, tests_of, bodies_of, is_built_statement, IsCleanExpr, AreCleanExprs, IsCleanStatement, AreCleanStatements}
+use Rattle.jx9_compile.specs.Problems.{exprs_of, statements_of, tests_of, bodies_of, is_built_statement, AreCleanExprs, IsCleanStatement, AreCleanStatements}
 use Rattle.jx9_compile.specs.Slots.{KeepsSlots, AreDistinct}
 use Rattle.jx9_compile.specs.declared.emitting.Emitter.{Emitter}
 use Rattle.jx9_compile.specs.declared.op.Op.{Op}
 use Rattle.jx9_compile.specs.declared.op.Op.TheVariants.{Unit as OneUnit, Push, Pop, Copy, Load, Store, Assign, Count, Add, Operate, Not, Join, Jump, JumpUnless, JumpIf, Call, Print, End}
-use Rattle.jx9_compile.proofs.Carried.{Carries, Ways, WaysOf, IsNoJump, test_carried, statement_carried, branches_carried, test_rises, statement_rises}
+use Rattle.jx9_compile.proofs.Carried.{Carries, Ways, IsNoJump, test_carried, statement_carried, branches_carried, test_rises, statement_rises}
 use Rattle.jx9_compile.proofs.Clean.{clean_head, clean_tail, clean_front, clean_rest, clean_last, clean_statements_head, clean_statements_tail, clean_statements_front, clean_statements_rest, clean_statements_last, clean_exprs_in, clean_statements_in, clean_statement_built, clean_looped}
 use Rattle.jx9_compile.proofs.Places.{missed_above}
-use Rattle.jx9_compile.proofs.EmitLemmas.{Stable, Then, Ahead, ahead_stable, filled_in, emits_then, emits_as, emits_here, emits_nothing, one_more, narrow, carries_same, ways_same, op_stable, expr_stable, prints_stable, effect_stable, effects_stable, statement_stable, sequence_stable, turn_stable, held_stable, held_rises, held_between, held_misses, same_slots}
+use Rattle.jx9_compile.proofs.EmitLemmas.{Stable, Then, Ahead, filled_in, emits_then, emits_as, emits_here, emits_nothing, one_more, narrow, carries_same, ways_same, op_stable, expr_stable, prints_stable, effects_stable, statement_stable, sequence_stable, turn_stable, held_stable, held_rises, held_between, held_misses, same_slots}
 
 pub open_kind : {n m : Kind} (layer : StatementLayer) → n ≡ m → roll-Kind layer ≡ m → out-Kind n ≡ layer
 open_kind layer h r = ap out-Kind (h ∙ sym r) ∙ out-roll-Kind layer

@@ -1,6 +1,6 @@
 -- The ops of an expression give its value.
 use Rattle.std.proofs.Common.{◌≡◌, ℕ, zero, suc, ◌+◌, ◌<◌, List, [], ◌∷◌, Option, Some, None, refl, sym, ap, ◌∙◌, subst, arith}
-use Rattle.std.specs.Prelude.{Bool, true, false, not, if◌then◌else◌, drop, length, map, nat_lt, ℤ, pos, ◌+ℤ◌, ◌-ℤ◌, slice_get, slice_set, Result, Ok, Err}
+use Rattle.std.specs.Prelude.{Bool, true, false, not, if◌then◌else◌, drop, length, map, nat_lt, ℤ, pos, ◌+ℤ◌, ◌-ℤ◌, slice_get, slice_set, Ok, Err}
 use Rattle.uq_value.specs.Data.{Bytes}
 use Rattle.uq_value.specs.Depth.{most_depth}
 use Rattle.uq_value.specs.Number.{number}
@@ -21,7 +21,7 @@ use Rattle.jx9_syntax.specs.declared.expression.Step.TheVariants.{IncrementFirst
 use Rattle.jx9_syntax.specs.declared.parts.Part.{Part}
 use Rattle.jx9_meaning.specs.Expression as meaning
 use Rattle.jx9_meaning.specs.Expression.{literal_value, joined, stepped, shown, part_value, deciding, choice, assign, link, value_of, evaluated, write_place, place_steps}
-use Rattle.jx9_meaning.specs.Meaning.{Fault, Meaning, Outcome, Goes, Ends, Unfinished, after, ◌>>=◌, ◌>>◌, pure, some_or, ok_or, put_or, fault_of, take, read, write, fits, sized, each, through}
+use Rattle.jx9_meaning.specs.Meaning.{Fault, Meaning, Goes, Ends, after, ◌>>=◌, ◌>>◌, pure, some_or, ok_or, put_or, fault_of, take, write, fits, sized, each, through}
 use Rattle.jx9_meaning.specs.Operators.{Checked, operate, checked, in_range}
 use Rattle.jx9_meaning.specs.Script.{Source, call, expr_within, run_within}
 use Rattle.jx9_meaning.specs.Statement.{all}
@@ -33,7 +33,7 @@ use Rattle.jx9_compile.specs.Run.{Result', Next, gives, is_unit, operated, count
 use Rattle.jx9_compile.specs.Slots.{AreDistinct}
 use Rattle.jx9_compile.specs.declared.code.Code.{Code}
 use Rattle.jx9_compile.specs.declared.op.Op.{Op}
-use Rattle.jx9_compile.specs.declared.op.Op.TheVariants.{Unit as OneUnit, Push, Pop, Copy, Load, Assign, Count, Not, Join, Jump, JumpUnless}
+use Rattle.jx9_compile.specs.declared.op.Op.TheVariants.{Push, Pop, Copy, Load, Assign, Count, Not, Join, Jump, JumpUnless}
 use Rattle.jx9_compile.proofs.Above.{arguments_are, under, each_length}
 use Rattle.jx9_compile.proofs.Jumps.{jump_ahead, jump_where_runs, jump_unless_runs}
 use Rattle.jx9_compile.proofs.Leads.{above, Leads, bare, leads_at_once, leads_step, leads_end, leads_then, leads_on, leads_then_where, machine, step, unit_runs, checked_runs}

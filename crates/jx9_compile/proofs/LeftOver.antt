@@ -1,6 +1,6 @@
 -- What a match leaves over.
-use Rattle.std.proofs.Common.{◌≡◌, ℕ, List, [], Option, Some, None, refl, sym, ap, ◌∙◌, inl, inr, true≢false}
-use Rattle.std.specs.Prelude.{Bool, true, false}
+use Rattle.std.proofs.Common.{◌≡◌, List, [], Option, refl, sym, ap, ◌∙◌}
+use Rattle.std.specs.Prelude.{false}
 use Rattle.uq_value.specs.Data.{Bytes}
 use Rattle.jx9_syntax.specs.Trees.{ExprLayer, StatementLayer}
 use Rattle.jx9_syntax.specs.declared.expression.Access.{Access}

@@ -1,5 +1,5 @@
 -- Steps that look at no variable do the same where the variables live in slots.
-use Rattle.std.proofs.Common.{◌≡◌, ℕ, suc, ◌+◌, List, [], ◌∷◌, refl, sym, ap, ◌∙◌, subst}
+use Rattle.std.proofs.Common.{◌≡◌, ℕ, suc, ◌+◌, List, ◌∷◌, refl, sym, ap, ◌∙◌, subst}
 use Rattle.std.specs.Prelude.{Bool, true, false, if◌then◌else◌, map, nat_lt, Ok, Err}
 use Rattle.uq_value.specs.Data.{Bytes}
 use Rattle.uq_value.specs.Put.{Put, limited}

@@ -1,5 +1,5 @@
 -- The ops of a statement do what it means.
-use Rattle.std.proofs.Common.{◌≡◌, ℕ, zero, suc, ◌+◌, ◌<◌, List, [], ◌∷◌, Option, Some, None, refl, sym, ap, ◌∙◌, subst, arith}
+use Rattle.std.proofs.Common.{◌≡◌, ℕ, zero, suc, ◌+◌, ◌<◌, List, [], ◌∷◌, Option, Some, None, refl, sym, ap, ◌∙◌, subst}
 use Rattle.std.specs.Prelude.{Bool, true, false, if◌then◌else◌, length, nat_lt, slice_get}
 use Rattle.uq_value.specs.Data.{Bytes}
 use Rattle.uq_value.specs.Truth.{truth}
@@ -10,8 +10,8 @@ use Rattle.jx9_syntax.specs.declared.expression.Expr.{Expr}
 use Rattle.jx9_syntax.specs.declared.statement.Branch.{Branch}
 use Rattle.jx9_syntax.specs.declared.statement.Statement.{Statement}
 use Rattle.jx9_meaning.specs.Meaning.{Spent, Meaning, Goes, Ends, ◌>>=◌, ◌>>◌, pure, take, tell, each, most_events}
-use Rattle.jx9_meaning.specs.Script.{Source, ended, expr_within, run_within}
-use Rattle.jx9_meaning.specs.Statement.{Signal, Next, Broke, Continued, Returned, then_next, then_turn, turns, sequence, printed, test, test_or_true, all, run_or_next, chosen, effect_of, executed}
+use Rattle.jx9_meaning.specs.Script.{Source, expr_within, run_within}
+use Rattle.jx9_meaning.specs.Statement.{Signal, Next, Broke, Continued, Returned, then_next, then_turn, turns, sequence, printed, test, test_or_true, all, chosen, effect_of, executed}
 use Rattle.jx9_meaning.specs.World.{State, Out, variable, with_event}
 use Rattle.jx9_compile.specs.Emitted.{ExprCode, Loop, EffectsCode, no_effects, effect_code, PrintsCode, no_prints, print_code, TestCode, no_test, test_code, StatementCode, block_code, print_statement, expr_statement, if_code, while_code, for_code, break_code, continue_code, return_code, return_null_code, SequenceCode, no_statements, statement_code, BranchesCode, no_branch, other_branch, branch_code, LoopCode, loop_code}
 use Rattle.jx9_compile.specs.Machine.{Frame, Machine, ops_of}
@@ -20,7 +20,7 @@ use Rattle.jx9_compile.specs.Slots.{AreDistinct}
 use Rattle.jx9_compile.specs.declared.code.Code.{Code}
 use Rattle.jx9_compile.specs.declared.op.Op.{Op}
 use Rattle.jx9_compile.specs.declared.op.Op.TheVariants.{Push, Print, Jump, End}
-use Rattle.jx9_compile.proofs.ExpressionRuns.{ExprsRun, EffectsRun, With, Without, effects_run, expr_begins, effect_begins}
+use Rattle.jx9_compile.proofs.ExpressionRuns.{ExprsRun, EffectsRun, effects_run, expr_begins, effect_begins}
 use Rattle.jx9_compile.proofs.Jumps.{jump_ahead, jump_back, jump_unless_runs}
 use Rattle.jx9_compile.proofs.Steps.{told}
 use Rattle.jx9_compile.proofs.Leads.{Leads, Follows, bare, machine, step, leads_at_once, leads_step, leads_end, leads_then, leads_on, unit_runs}

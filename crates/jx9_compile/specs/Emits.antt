@@ -1,5 +1,5 @@
 -- What a part of the compiler adds to a function's ops.
-use Rattle.std.specs.Prelude.{◌≡◌, ℕ, ◌+◌, ◌<◌, ◌≤◌, Bool, true, false, not, is_some, List, [], ◌∷◌, length, Option, Some, None, slice_get, slice_set}
+use Rattle.std.specs.Prelude.{◌≡◌, ℕ, ◌+◌, ◌<◌, ◌≤◌, Bool, true, not, is_some, List, [], ◌∷◌, length, Option, Some, None, slice_get, slice_set}
 use Rattle.uq_value.specs.Data.{Bytes}
 use Rattle.uq_value.specs.declared.value.Value.{Value}
 use Rattle.jx9_syntax.specs.declared.expression.Expr.{Expr}

@@ -1,5 +1,5 @@
 -- Which ops stand for a tree. A place in the ops is a number, so a jump names the place to which it leads.
-use Rattle.std.specs.Prelude.{◌≡◌, ℕ, ◌+◌, ◌<◌, Bool, true, false, not, pos, List, [], ◌∷◌, length, Option, Some, None, slice_get}
+use Rattle.std.specs.Prelude.{◌≡◌, ℕ, ◌+◌, ◌<◌, Bool, true, false, pos, List, [], ◌∷◌, length, Option, Some, None, slice_get}
 use Rattle.uq_value.specs.Data.{Bytes}
 use Rattle.uq_value.specs.declared.value.Value.{Value}
 use Rattle.jx9_syntax.specs.Trees.{node_of, kind_of}

@@ -8,7 +8,7 @@ use Rattle.jx9_syntax.specs.declared.expression.Binary.{Binary}
 use Rattle.jx9_syntax.specs.declared.expression.Binary.TheVariants as binary
 use Rattle.jx9_syntax.specs.declared.expression.Step.{Step}
 use Rattle.jx9_meaning.specs.Expression.{joined, stepped, shown}
-use Rattle.jx9_meaning.specs.Meaning.{Done, Fault, Spent, Meaning, Outcome, Goes, Ends, Unfinished, ◌>>=◌, pure, some_or, ok_or, fits, sized, tell}
+use Rattle.jx9_meaning.specs.Meaning.{Done, Fault, Spent, Meaning, Outcome, Goes, Ends, Unfinished, pure, some_or, ok_or, fits, sized, tell}
 use Rattle.jx9_meaning.specs.Meaning as meaning
 use Rattle.jx9_meaning.specs.Operators.{operate}
 use Rattle.jx9_meaning.specs.Script.{Ended, ended, most_active, with_active}

@@ -1,9 +1,9 @@
 //! A command is obeyed: it is answered, and its reply is put out.
-ghost use Rattle.std.specs.Prelude.{◌≡◌, ◌≤◌, ◌<◌, ◌^◌, None};
+ghost use Rattle.std.specs.Prelude.{◌≡◌, ◌<◌, ◌^◌, None};
 ghost use Rattle.std.specs.Option.{option_map};
 ghost use Rattle.uq_kv.specs.Kv.{closed_of, limits_of};
 ghost use Rattle.uq_shell.specs.Answers.{request_of};
-ghost use Rattle.uq_shell.specs.Obeys.{MovesOn, PutsNone, ReadsBy, RepliesBy, commits_before};
+ghost use Rattle.uq_shell.specs.Obeys.{MovesOn, PutsNone, ReadsBy, RepliesBy};
 ghost use Rattle.uq_shell.specs.Stream.{after, asked_by as spec_asked_by, obeyed_in};
 ghost use Rattle.uq_words.specs.Lines.{spoken_by};
 ghost use Rattle.uq_words.specs.Texts.{spoken_as};

@@ -1,4 +1,3 @@
-use Rattle.std.proofs.Common.{refl, ap, ◌∙◌}
 use Rattle.jx9_compile.proofs.Compiled.{compiled, uncompiled}
 use Rattle.jx9_compile.proofs.compiling.compile.Goals as goal
 

@@ -1,4 +1,4 @@
-use Rattle.std.proofs.Common.{length, refl, ap, ◌∙◌}
+use Rattle.std.proofs.Common.{length, refl, ap}
 use Rattle.jx9_syntax.specs.declared.expression.Node as node
 use Rattle.jx9_compile.specs.Emits.{IsExpr}
 use Rattle.jx9_compile.proofs.EmitLemmas.{expr_stable, no_pieces, pieces_go_on}

@@ -1,4 +1,4 @@
-use Rattle.std.proofs.Common.{refl, sym, ap, ◌∙◌, Some}
+use Rattle.std.proofs.Common.{sym, ap, ◌∙◌, Some}
 use Rattle.jx9_compile.specs.Emits.{IsBranch}
 use Rattle.jx9_compile.proofs.EmitLemmas.{no_pieces, pieces_go_on}
 use Rattle.jx9_compile.proofs.EmitStatements.{no_statements_emitted, sequence_goes_on, branch_stable, branch_emitted, block_emitted, print_emitted, expr_emitted, if_none_emitted, if_some_emitted, while_emitted, for_emitted, endless_emitted, turns_emitted, turn_emitted, return_emitted, return_null_emitted, break_emitted, continue_emitted, unbuilt_emitted}

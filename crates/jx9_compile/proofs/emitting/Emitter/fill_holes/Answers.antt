@@ -1,5 +1,5 @@
-use Rattle.std.proofs.Common.{sym, ap, ◌∙◌, refl, true≢false}
-use Rattle.jx9_compile.proofs.Places.{nothing_filled, fill_more, fill_none, fill_all}
+use Rattle.std.proofs.Common.{sym, ap, ◌∙◌, true≢false}
+use Rattle.jx9_compile.proofs.Places.{fill_more, fill_none, fill_all}
 use Rattle.jx9_compile.proofs.emitting.Emitter.fill_holes.Goals as goal
 use Rattle.jx9_compile.proofs.emitting.Emitter.fill_holes.Goals.{then-is_hole, else-is_hole}
 
