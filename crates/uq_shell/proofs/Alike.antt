@@ -1,10 +1,10 @@
 -- Runs of calls within which a stop leaves what files recovered to.
-use Rattle.std.proofs.Common.{◌≡◌, refl, sym, ap, subst}
+use Rattle.std.proofs.Common.{◌≡◌, refl, sym, ap, subst, ◌∙◌}
 use Rattle.std.specs.Prelude.{⊤}
 use Rattle.std.specs.Borrow.{MutBor}
 use Rattle.uq_outside.specs.declared.disk.Disk.{Ghosts}
 use Rattle.uq_outside.specs.Since.{After, Laws}
-use Rattle.uq_outside.specs.SinceLaws.{started, told_same, weaker}
+use Rattle.uq_outside.specs.SinceLaws.{started, steps_on, told_same, weaker}
 use Rattle.uq_journal.specs.Calls.{IsStill, RecoversAs, Stays}
 use Rattle.uq_journal.specs.Recovered.{recovered}
 use Rattle.uq_shell.specs.Answers.{LeavesAlike}
@@ -31,3 +31,10 @@ module _ {D : Type 0} (g : Ghosts D) where
 
     pub still_same : (old new : MutBor D) → new ≡ old → IsStill g old.now new.now
     still_same old new same = subst (λ (disk : MutBor D). IsStill g old.now disk.now) (sym same) (still_here old.now)
+
+    -- one run that changes nothing after the other
+    pub still_on : (old mid new : D) → IsStill g old mid → IsStill g mid new → IsStill g old new
+    still_on old mid new first second = record {
+      same = second.same ∙ first.same;
+      steps = steps_on g Stays (λ a b c one two. two ∙ one) laws.counts_now old mid new first.steps second.steps;
+    }

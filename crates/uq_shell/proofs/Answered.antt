@@ -1,15 +1,15 @@
 -- A command is obeyed behind others.
-use Rattle.std.proofs.Common.{◌≡◌, ◌⊎◌, ◌≤◌, ◌+◌, Bool, true, false, List, Option, None, Result, Ok, Err, inl, inr, refl, sym, ap, subst, arith}
+use Rattle.std.proofs.Common.{◌≡◌, ◌⊎◌, ◌≤◌, ◌+◌, ℕ, Bool, true, false, List, Option, None, Result, Ok, Err, inl, inr, refl, sym, ap, subst, arith}
 use Rattle.std.specs.Prelude.{IsTrue}
 use Rattle.uq_outside.specs.declared.disk.Disk as disk
 use Rattle.uq_outside.specs.declared.sink.Sink as sink
-use Rattle.uq_outside.specs.Since.{Laws}
-use Rattle.uq_model.specs.Session.{Session}
-use Rattle.uq_kv.specs.Kv.{closed_of, limits_of}
+use Rattle.uq_outside.specs.Since.{Laws, LeavesOnly}
+use Rattle.uq_kv.specs.Holds.{RecoversToEither}
+use Rattle.uq_kv.specs.Kv.{Tells, closed_of, disk_of, limits_of}
 use Rattle.uq_kv.specs.Stored.{Stored}
 use Rattle.uq_kv.specs.declared.kv.Kv.{Kv}
-use Rattle.uq_shell.specs.Answers.{DoesAsAsked, Leaves, request_of}
-use Rattle.uq_shell.specs.Commands.{Request}
+use Rattle.uq_shell.specs.Answers.{DoesAsAsked, Leaves, desk_at, request_of}
+use Rattle.uq_shell.specs.Commands.{Desk, Request}
 use Rattle.uq_shell.specs.Events.{Event}
 use Rattle.uq_shell.specs.Obeys.{MovesOn, Replied, RepliesBy, Unreplied, commits_before}
 use Rattle.uq_shell.specs.Reached.{CutShort, Reached}
@@ -44,20 +44,40 @@ cut_answered = by_cut (λ status. IsTrue (row status).is_answered → ⊥) (λ a
 pub cut_of_store : (status : Status) → IsCut status → IsTrue (is_of_store status)
 cut_of_store = by_cut (λ status. IsTrue (is_of_store status)) refl refl refl
 
-module _ {D O : Type 0} (g : disk.Ghosts D) (o : sink.Ghosts O) (laws : Laws g) (it : Command) (was : Progress) (old new : Kv D g) (x : O) where
+-- a desk is its session and the place of its cursor
+desk_is : (desk : Desk) (place : Option (List ℕ)) → place ≡ desk.cursor → desk_at desk.session place ≡ desk
+desk_is desk place is = ap (λ (at : Option (List ℕ)). desk_at desk.session at) is
+
+module _ {D O : Type 0} (g : disk.Ghosts D) (o : sink.Ghosts O) (laws : Laws g) (it : Command) (was : Progress) (place_old place_new : Option (List ℕ)) (old new : Kv D g) (x : O) where
   abbrev next : State → State
   next state = obeyed_in (limits_of g old) state (request_of it)
 
-  -- what it says and leaves of the session
-  abbrev did : State → Said × Session Stored
-  did state = (request_of it).does (limits_of g old) state.session
+  -- what it says and leaves of a desk
+  abbrev did_at : Desk → Said × Desk
+  did_at desk = (request_of it).does (limits_of g old) desk
+
+  abbrev did : State → Said × Desk
+  did state = did_at state.desk
+
+  -- what a stop within leaves of a state that was reached
+  stop_at : {T : Type 0} (result : Result T Status) → Leaves g {T = T} (request_of it) old new place_old result → (entry : Stored) (state : State) (disk_first : D) (x0 : O)
+      → Reached g o entry state was place_old disk_first old x0 x → LeavesOnly g (disk_of g old).now (disk_of g new).now (RecoversToEither state.desk.session.saved (did state).1.session.saved)
+  stop_at result leaves entry state disk_first x0 reached =
+      subst (λ (desk : Desk). LeavesOnly g (disk_of g old).now (disk_of g new).now (RecoversToEither state.desk.session.saved (did_at desk).1.session.saved))
+      (desk_is state.desk place_old reached.cursor) (leaves.stop state.desk.session reached.tells)
 
   -- it was answered, and its reply was put out, or the sink failed within that
-  module _ (answer : Answer) (does : DoesAsAsked g (request_of it) old new answer) (leaves : Leaves g {T = Answer} (request_of it) old new (Ok answer)) (unclosed : closed_of g new ≡ None) where
-    saves : (state : State) → said_in answer ≡ (did state).0 → SavesBy answer.commits state.session (did state).1
-    saves state is = subst (λ (said : Said). SavesBy said.commits state.session (did state).1) (sym is) (saves_by it (limits_of g old) state.session)
+  module _ (answer : Answer) (does : DoesAsAsked g (request_of it) old new place_old place_new answer) (leaves : Leaves g {T = Answer} (request_of it) old new place_old (Ok answer)) (unclosed : closed_of g new ≡ None) where
+    saves : (state : State) → said_in answer ≡ (did state).0 → SavesBy answer.commits state.desk.session (did state).1.session
+    saves state is = subst (λ (said : Said). SavesBy said.commits state.desk.session (did state).1.session) (sym is) (saves_by it (limits_of g old) state.desk)
 
-    moves_whole : (now : Progress) (z : O) (done : Unit {0}) → Replied o answer was now x z → MovesOn g o next was now old new x z (Ok done)
+    told_at : (entry : Stored) (state : State) (disk_first : D) (x0 : O) → Reached g o entry state was place_old disk_first old x0 x
+        → (said_in answer ≡ (did state).0) × Tells g new (did state).1.session × (place_new ≡ (did state).1.cursor)
+    told_at entry state disk_first x0 reached =
+        subst (λ (desk : Desk). (said_in answer ≡ (did_at desk).0) × Tells g new (did_at desk).1.session × (place_new ≡ (did_at desk).1.cursor))
+        (desk_is state.desk place_old reached.cursor) (does state.desk.session reached.tells)
+
+    moves_whole : (now : Progress) (z : O) (done : Unit {0}) → Replied o answer was now x z → MovesOn g o next was now place_old place_new old new x z (Ok done)
     moves_whole now z done replied =
         let count : now.done ≡ was.done + commits_before answer.commits + 1 = ap (λ (it : Progress). it.done) replied.progress in
         let few = few_commits answer.commits in
@@ -69,20 +89,20 @@ module _ {D O : Type 0} (g : disk.Ghosts D) (o : sink.Ghosts O) (laws : Laws g) 
           within = tt;
           stands = λ disk_first x0 stands.
               stands_on g o was disk_first old new x0 x stands leaves.later (text_of answer.reply) now z (omega arith) (ap (λ (it : Progress). it.last) replied.progress) replied.written replied.quiet;
-          tells = λ told. (((request_of it).does (limits_of g old) told.0).1, (does told.0 told.1).1);
+          tells = λ told. ((did_at (desk_at told.0 place_old)).1.session, (does told.0 told.1).1);
           not_database = λ is. absurd (cc);
           reached = λ entry state disk_first x0 reached.
-              let told = does state.session reached.tells in
-              subst (λ (said : Said). Reached g o entry (state_behind state said (did state).1) now disk_first new x0 z) told.0
-              (reached_on g o entry state was (said_in answer) (did state).1 disk_first old new x0 x reached (saves state told.0) (leaves.stop state.session reached.tells)
-              now z told.1 replied.progress replied.written replied.quiet);
+              let told = told_at entry state disk_first x0 reached in
+              subst (λ (said : Said). Reached g o entry (state_behind state said (did state).1) now place_new disk_first new x0 z) told.0
+              (reached_on g o entry state was place_old (said_in answer) (did state).1 disk_first old new x0 x reached (saves state told.0) (stop_at (Ok answer) leaves entry state disk_first x0 reached)
+              now place_new z told.2 told.1 replied.progress replied.written replied.quiet);
         }
       where
         few_commits : (b : Bool) → commits_before b ≤ 1
         few_commits true = omega arith
         few_commits false = omega arith
 
-    moves_part : (now : Progress) (z : O) → Unreplied o answer was now x z → MovesOn g o next was now old new x z (Err Sink)
+    moves_part : (now : Progress) (z : O) → Unreplied o answer was now x z → MovesOn g o next was now place_old place_new old new x z (Err Sink)
     moves_part now z unreplied =
         let count : now.done ≡ was.done + commits_before answer.commits = ap (λ (it : Progress). it.done) unreplied.progress in
         record {
@@ -96,19 +116,19 @@ module _ {D O : Type 0} (g : disk.Ghosts D) (o : sink.Ghosts O) (laws : Laws g) 
           tells = λ _. tt;
           not_database = λ is. absurd (cc);
           reached = λ entry state disk_first x0 reached.
-              let told = does state.session reached.tells in
+              let told = told_at entry state disk_first x0 reached in
               subst (λ (said : Said). CutShort g o entry (state_behind state said (did state).1).events Sink now disk_first new x0 z) told.0
-              (cut_by_sink g o entry state was (said_in answer) (did state).1 disk_first old new x0 x reached (saves state told.0) (leaves.stop state.session reached.tells)
+              (cut_by_sink g o entry state was place_old (said_in answer) (did state).1 disk_first old new x0 x reached (saves state told.0) (stop_at (Ok answer) leaves entry state disk_first x0 reached)
               now z unreplied.count told.1 unreplied.progress unreplied.written unreplied.rose);
         }
 
-    pub moves_answered : (now : Progress) (z : O) (result : Result (Unit {0}) Stop) → RepliesBy o result answer was now x z → MovesOn g o next was now old new x z result
+    pub moves_answered : (now : Progress) (z : O) (result : Result (Unit {0}) Stop) → RepliesBy o result answer was now x z → MovesOn g o next was now place_old place_new old new x z result
     moves_answered now z (Ok done) replies = moves_whole now z done replies
     moves_answered now z (Err (At status)) replies = absurd replies
     moves_answered now z (Err Sink) replies = moves_part now z replies
 
   -- the store failed
-  pub moves_cut : (status : Status) → Leaves g {T = Answer} (request_of it) old new (Err status) → MovesOn g o next was was old new x x (Err (At status))
+  pub moves_cut : (status : Status) → Leaves g {T = Answer} (request_of it) old new place_old (Err status) → MovesOn g o next was was place_old place_new old new x x (Err (At status))
   moves_cut status leaves = record {
     same_reference = leaves.same_reference;
     limits = leaves.limits;
@@ -120,15 +140,15 @@ module _ {D O : Type 0} (g : disk.Ghosts D) (o : sink.Ghosts O) (laws : Laws g) 
     tells = λ _. tt;
     not_database = λ is told. leaves.corrupt (ap Err (let same : status ≡ NotDatabase = cc in same)) told.0 told.1;
     reached = λ entry state disk_first x0 reached.
-        cut_by_store g o entry state was (did state).0 (did state).1 disk_first old new x0 x reached (saves_by it (limits_of g old) state.session) (leaves.stop state.session reached.tells)
-        laws status (cut_answered status leaves.others);
+        cut_by_store g o entry state was place_old (did state).0 (did state).1 disk_first old new x0 x reached (saves_by it (limits_of g old) state.desk)
+        (stop_at {T = Answer} (Err status) leaves entry state disk_first x0 reached) laws status (cut_answered status leaves.others);
   }
 
 -- ---- a line
 
-module _ {D O : Type 0} (g : disk.Ghosts D) (o : sink.Ghosts O) (was : Progress) (kv : Kv D g) (x : O) where
+module _ {D O : Type 0} (g : disk.Ghosts D) (o : sink.Ghosts O) (was : Progress) (place : Option (List ℕ)) (kv : Kv D g) (x : O) where
   -- it says nothing
-  pub moves_silent : closed_of g kv ≡ None → MovesOn g o (λ state. after (limits_of g kv) state None) was was kv kv x x (Ok tt)
+  pub moves_silent : closed_of g kv ≡ None → MovesOn g o (λ state. after (limits_of g kv) state None) was was place place kv kv x x (Ok tt)
   moves_silent unclosed = record {
     same_reference = refl;
     limits = refl;
@@ -142,7 +162,7 @@ module _ {D O : Type 0} (g : disk.Ghosts D) (o : sink.Ghosts O) (was : Progress)
   }
 
   -- there is no memory to read it
-  pub moves_memory : (asked : Option Request) → MovesOn g o (λ state. after (limits_of g kv) state asked) was was kv kv x x (Err (At Memory))
+  pub moves_memory : (asked : Option Request) → MovesOn g o (λ state. after (limits_of g kv) state asked) was was place place kv kv x x (Err (At Memory))
   moves_memory asked = record {
     same_reference = refl;
     limits = refl;
@@ -155,5 +175,5 @@ module _ {D O : Type 0} (g : disk.Ghosts D) (o : sink.Ghosts O) (was : Progress)
     reached = λ entry state disk_first x0 reached.
         let more = after_extends (limits_of g kv) state asked in
         subst (λ (events : List Event). CutShort g o entry events (At Memory) was disk_first kv x0 x) (sym more.1)
-        (cut_more g o entry state.events more.0 (At Memory) was disk_first kv x0 x (reached_cut g o entry state was disk_first kv x0 x Memory reached));
+        (cut_more g o entry state.events more.0 (At Memory) was disk_first kv x0 x (reached_cut g o entry state was place disk_first kv x0 x Memory reached));
   }

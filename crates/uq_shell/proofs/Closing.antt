@@ -66,11 +66,11 @@ module _ {D O : Type 0} (g : disk.Ghosts D) (o : sink.Ghosts O) (at : Progress) 
                 line = ends_whole o x0 x ⊥ stands.replies at.is_refused stands.written;
                 kept = λ nothing. kept_idle disk_first x0 stands (omega (arith, count, nothing));
               };
-          ends = λ entry state disk_first x0 reached before.
-              let done_is : n ≡ at.done + commits_before state.session.begun
+          ends = λ entry state place disk_first x0 reached before.
+              let done_is : n ≡ at.done + commits_before state.desk.session.begun
               = count ∙ ap (λ (b : Bool). at.done + commits_before b) (sym (reached.tells.begun ∙ begun_is)) in
               subst (λ (b : Bool). Ends g o entry (at_end state) ⊥ disk_first (disk_of g new).now x0 x (record { status = status_of b; done = n })) reached.refused
-              (settled g o entry state at disk_first old new x0 x reached (stop state.session reached.tells) ⊥ n done_is (does state.session reached.tells refl).1 (durable state.session reached.tells));
+              (settled g o entry state at place disk_first old new x0 x reached (stop state.desk.session reached.tells) ⊥ n done_is (does state.desk.session reached.tells refl).1 (durable state.desk.session reached.tells));
           idle = idle;
         })
 
@@ -104,8 +104,8 @@ module _ {D O : Type 0} (g : disk.Ghosts D) (o : sink.Ghosts O) (at : Progress) 
               kept = kept_idle disk_first x0 stands;
             } in
             anywhere_at g o ⊥ ⊥ at disk_first (disk_of g new).now x0 Disk x z stops line later refl (λ is. absurd (cc)) (λ is. cc);
-        ends = λ entry state disk_first x0 reached before.
+        ends = λ entry state place disk_first x0 reached before.
             ends_at g o entry (at_end state) ⊥ at disk_first new x0 Disk x z
-            (settled_cut g o entry state at disk_first old new x0 x reached (stop state.session reached.tells) laws) line refl (λ is. absurd (cc)) (λ _. rose_later _ _ _ before rose) (λ is. cc) (λ is. absurd (cc));
+            (settled_cut g o entry state at place disk_first old new x0 x reached (stop state.desk.session reached.tells) laws) line refl (λ is. absurd (cc)) (λ _. rose_later _ _ _ before rose) (λ is. cc) (λ is. absurd (cc));
         idle = idle;
       }

@@ -47,14 +47,15 @@ use Rattle.uq_shell.proofs.Stopping.{command_run, never, no_more_input, within_r
 -- ---- at the start
 
 module _ {D O : Type 0} (g : disk.Ghosts D) (o : sink.Ghosts O) (laws : Laws g) where
-  pub reached_start : (entry : Stored) (at : Progress) (kv : Kv D g) (out : O) → at ≡ at_start → Tells g kv (opened entry) → Reached g o entry (start entry) at (disk_of g kv).now kv out out
-  reached_start entry at kv out begins tells =
+  pub reached_start : (entry : Stored) (at : Progress) (place : Option (List ℕ)) (kv : Kv D g) (out : O) → at ≡ at_start → place ≡ None → Tells g kv (opened entry) → Reached g o entry (start entry) at place (disk_of g kv).now kv out out
+  reached_start entry at place kv out begins unset tells =
       let holds = holds_saved g kv (opened entry) tells in
-      subst (λ (it : Progress). Reached g o entry (start entry) it (disk_of g kv).now kv out out) (sym begins) (record {
+      subst (λ (it : Progress). Reached g o entry (start entry) it place (disk_of g kv).now kv out out) (sym begins) (record {
         done = refl;
         last = refl;
         refused = refl;
         tells = tells;
+        cursor = unset;
         saved = refl;
         written = grows_nothing (o.written out);
         quiet = refl;
@@ -84,7 +85,7 @@ Extends state events = (more : List Event) × (events ≡ state.events ++ more)
 
 pub after_extends : (limits : Limits) (state : State) (asked : Option Request) → Extends state (after limits state asked).events
 after_extends limits state None = ([], sym (append-nil state.events))
-after_extends limits state (Some asked) = (events_of (written_last state) state.session (asked.does limits state.session).0, refl)
+after_extends limits state (Some asked) = (events_of (written_last state) state.desk.session (asked.does limits state.desk).0, refl)
 
 all_extends : (limits : Limits) (state : State) (read : List (List ℕ)) → Extends state (heard_all limits state read).events
 all_extends limits state [] = ([], sym (append-nil state.events))
@@ -97,7 +98,7 @@ all_extends limits state (raw ∷ others) =
 end_extends : (limits : Limits) (state : State) (read : List (List ℕ)) → Extends state (at_end (heard_all limits state read)).events
 end_extends limits state read =
     let all : Extends state (heard_all limits state read).events = all_extends limits state read in
-    let last : List Event = commit_at_end (heard_all limits state read).session in
+    let last : List Event = commit_at_end (heard_all limits state read).desk.session in
     (all.0 ++ last, ap (λ (l : List Event). l ++ last) all.1 ∙ append_assoc state.events all.0 last)
 
 either_extends : (limits : Limits) (state : State) (read : List (List ℕ)) (ends : Bool)
@@ -111,10 +112,10 @@ run_extends limits state most input = either_extends limits state (lines (take m
 -- ---- behind some lines
 
 -- The lines at the front of the input have led to this state, from which the run over all of it goes on with what is left.
-pub record Passed {D I O : Type 0} (g : disk.Ghosts D) (i : source.Ghosts I) (o : sink.Ghosts O) (limits : Limits) (entry : Stored) (most : ℕ) (bytes : List ℕ) (at : Progress) (disk_first : D) (kv : Kv D g) (x0 x : O)
+pub record Passed {D I O : Type 0} (g : disk.Ghosts D) (i : source.Ghosts I) (o : sink.Ghosts O) (limits : Limits) (entry : Stored) (most : ℕ) (bytes : List ℕ) (at : Progress) (place : Option (List ℕ)) (disk_first : D) (kv : Kv D g) (x0 x : O)
     (it : Lines) (input : I) : Type 0 where
   pub state : State
-  pub reached : Reached g o entry state at disk_first kv x0 x
+  pub reached : Reached g o entry state at place disk_first kv x0 x
   pub consumed : List ℕ
   pub left : List ℕ
   pub split : bytes ≡ consumed ++ left
@@ -122,11 +123,11 @@ pub record Passed {D I O : Type 0} (g : disk.Ghosts D) (i : source.Ghosts I) (o 
   pub count : most ≡ length consumed + most_of it
   pub heard : (m : ℕ) (tail : List ℕ) → run_from limits (start entry) (length consumed + m) (consumed ++ tail) ≡ run_from limits state m tail
 
-module _ {D I O : Type 0} (g : disk.Ghosts D) (i : source.Ghosts I) (o : sink.Ghosts O) (limits : Limits) (entry : Stored) (most : ℕ) (bytes : List ℕ) (at : Progress) (disk_first : D) (kv : Kv D g) (x0 x : O)
+module _ {D I O : Type 0} (g : disk.Ghosts D) (i : source.Ghosts I) (o : sink.Ghosts O) (limits : Limits) (entry : Stored) (most : ℕ) (bytes : List ℕ) (at : Progress) (place : Option (List ℕ)) (disk_first : D) (kv : Kv D g) (x0 x : O)
     (it : Lines) (input : I) where
   -- no line was taken yet
-  pub passed_start : Reached g o entry (start entry) at disk_first kv x0 x → pending it ≡ [] → room_of it ≡ most → i.left input ≡ Some bytes
-      → Passed g i o limits entry most bytes at disk_first kv x0 x it input
+  pub passed_start : Reached g o entry (start entry) at place disk_first kv x0 x → pending it ≡ [] → room_of it ≡ most → i.left input ≡ Some bytes
+      → Passed g i o limits entry most bytes at place disk_first kv x0 x it input
   passed_start reached none room there = record {
     state = start entry;
     reached = reached;
@@ -138,7 +139,7 @@ module _ {D I O : Type 0} (g : disk.Ghosts D) (i : source.Ghosts I) (o : sink.Gh
     heard = λ m tail. ap (λ (n : ℕ). run_from limits (start entry) n tail) (zero-add m);
   }
 
-  module _ (passed : Passed g i o limits entry most bytes at disk_first kv x0 x it input) where
+  module _ (passed : Passed g i o limits entry most bytes at place disk_first kv x0 x it input) where
     -- the whole run, as it goes on from here
     pub run_is : run_from limits (start entry) most bytes ≡ run_from limits passed.state (most_of it) passed.left
     run_is =
@@ -151,7 +152,7 @@ module _ {D I O : Type 0} (g : disk.Ghosts D) (i : source.Ghosts I) (o : sink.Gh
         let more : Extends passed.state (run_from limits passed.state (most_of it) passed.left).events = run_extends limits passed.state (most_of it) passed.left in
         let all : (run_from limits (start entry) most bytes).events ≡ passed.state.events ++ more.0 = ap (λ (r : Outcome). r.events) run_is ∙ more.1 in
         subst (λ (l : List Event). CutShort g o entry l (At status) at disk_first kv x0 x) (sym all)
-        (cut_more g o entry passed.state.events more.0 (At status) at disk_first kv x0 x (reached_cut g o entry passed.state at disk_first kv x0 x status passed.reached))
+        (cut_more g o entry passed.state.events more.0 (At status) at disk_first kv x0 x (reached_cut g o entry passed.state at place disk_first kv x0 x status passed.reached))
 
     -- more input is left than is read
     pub much_here : IsTooMuch (most_of it) passed.left
@@ -182,9 +183,9 @@ module _ {D I O : Type 0} (g : disk.Ghosts D) (i : source.Ghosts I) (o : sink.Gh
       pub line_state : after limits passed.state (asked_by (spoken_by text)) ≡ heard limits passed.state is.raw
       line_state = ap (λ (t : Option (List ℕ)). after limits passed.state (asked_by (spoken_by t))) is.kept_text
 
-      pub passed_on : (at_new : Progress) (new : Kv D g) (z : O) (next : Lines) (in_new : I) → left_of i next in_new ≡ Some behind → most_of next ≡ most_behind
-          → Reached g o entry (after limits passed.state (asked_by (spoken_by text))) at_new disk_first new x0 z → Passed g i o limits entry most bytes at_new disk_first new x0 z next in_new
-      passed_on at_new new z next in_new there same reached =
+      pub passed_on : (at_new : Progress) (place_new : Option (List ℕ)) (new : Kv D g) (z : O) (next : Lines) (in_new : I) → left_of i next in_new ≡ Some behind → most_of next ≡ most_behind
+          → Reached g o entry (after limits passed.state (asked_by (spoken_by text))) at_new place_new disk_first new x0 z → Passed g i o limits entry most bytes at_new place_new disk_first new x0 z next in_new
+      passed_on at_new place_new new z next in_new there same reached =
           let line : List ℕ = is.raw ++ 0x0a ∷ [] in
           let long : length line ≡ length is.raw + 1 = length-append is.raw (0x0a ∷ []) in
           let both : length (passed.consumed ++ line) ≡ length passed.consumed + length line = length-append passed.consumed line in
@@ -193,7 +194,7 @@ module _ {D I O : Type 0} (g : disk.Ghosts D) (i : source.Ghosts I) (o : sink.Gh
           let here = is.count in
           record {
             state = heard limits passed.state is.raw;
-            reached = subst (λ (s : State). Reached g o entry s at_new disk_first new x0 z) line_state reached;
+            reached = subst (λ (s : State). Reached g o entry s at_new place_new disk_first new x0 z) line_state reached;
             consumed = passed.consumed ++ line;
             left = behind;
             split = passed.split ∙ ap (λ (w : List ℕ). passed.consumed ++ w) (is.split ∙ sym (joined behind)) ∙ sym (append_assoc passed.consumed line behind);
@@ -229,16 +230,16 @@ module _ {D I O : Type 0} (g : disk.Ghosts D) (i : source.Ghosts I) (o : sink.Gh
       last_run : run_from limits (start entry) most bytes ≡ at_end (after limits passed.state (asked_by (spoken_by text)))
       last_run = run_is ∙ last_heard limits passed.state (most_of it) passed.left text is ∙ sym (ap at_end last_state)
 
-      pub carried_last : (at_new : Progress) (new : Kv D g) (z : O) → Reached g o entry (after limits passed.state (asked_by (spoken_by text))) at_new disk_first new x0 z
-          → (state : State) × Reached g o entry state at_new disk_first new x0 z × (at_end state ≡ run_from limits (start entry) most bytes)
-      carried_last at_new new z reached = (after limits passed.state (asked_by (spoken_by text)), reached, sym last_run)
+      pub carried_last : (at_new : Progress) (place_new : Option (List ℕ)) (new : Kv D g) (z : O) → Reached g o entry (after limits passed.state (asked_by (spoken_by text))) at_new place_new disk_first new x0 z
+          → (state : State) × (place : Option (List ℕ)) × Reached g o entry state at_new place disk_first new x0 z × (at_end state ≡ run_from limits (start entry) most bytes)
+      carried_last at_new place_new new z reached = (after limits passed.state (asked_by (spoken_by text)), place_new, reached, sym last_run)
 
       pub cut_last : (stop : Stop) (at_new : Progress) (new : Kv D g) (z : O) → CutShort g o entry (after limits passed.state (asked_by (spoken_by text))).events stop at_new disk_first new x0 z
           → CutShort g o entry (run_from limits (start entry) most bytes).events stop at_new disk_first new x0 z
       cut_last stop at_new new z cut =
           let next : State = after limits passed.state (asked_by (spoken_by text)) in
           subst (λ (r : Outcome). CutShort g o entry r.events stop at_new disk_first new x0 z) (sym last_run)
-          (cut_more g o entry next.events (commit_at_end next.session) stop at_new disk_first new x0 z cut)
+          (cut_more g o entry next.events (commit_at_end next.desk.session) stop at_new disk_first new x0 z cut)
 
 -- ---- what is taken of the input
 
@@ -321,11 +322,11 @@ going_start i it input = record { faults = refl; room = omega arith; taken = inl
 
 -- ---- how far the reading has come, and how it ends
 
-module _ {D I O : Type 0} (g : disk.Ghosts D) (i : source.Ghosts I) (o : sink.Ghosts O) (most : ℕ) (first : Kv D g) (in_first : I) (x0 : O) (at : Progress) (kv : Kv D g) (x : O) (it : Lines) (input : I)
+module _ {D I O : Type 0} (g : disk.Ghosts D) (i : source.Ghosts I) (o : sink.Ghosts O) (most : ℕ) (first : Kv D g) (in_first : I) (x0 : O) (at : Progress) (place : Option (List ℕ)) (kv : Kv D g) (x : O) (it : Lines) (input : I)
     (same_reference : (disk_of g kv).ghost_name ≡ (disk_of g first).ghost_name) (limits : limits_of g kv ≡ limits_of g first) (stands : Stands g o at (disk_of g first).now kv x0 x)
     (tells : IsTold g o first → IsTold g o kv)
     (told : (entry : Stored) (bytes : List ℕ) → Tells g first (opened entry) → i.left in_first ≡ Some bytes
-    → Passed g i o (limits_of g first) entry most bytes at (disk_of g first).now kv x0 x it input) where
+    → Passed g i o (limits_of g first) entry most bytes at place (disk_of g first).now kv x0 x it input) where
   abbrev reads : List ℕ → Type 0
   reads bytes = i.left in_first ≡ Some bytes
 
@@ -344,10 +345,10 @@ module _ {D I O : Type 0} (g : disk.Ghosts D) (i : source.Ghosts I) (o : sink.Gh
     stands = stands_cut g o at (disk_of g first).now kv x0 x status stands other;
     not_database = λ is. absurd (another (cc));
     told = λ entry bytes tells there.
-        (cut_here g i o (limits_of g first) entry most bytes at (disk_of g first).now kv x0 x it input (told entry bytes tells there) status, λ is. much entry bytes tells there (cc));
+        (cut_here g i o (limits_of g first) entry most bytes at place (disk_of g first).now kv x0 x it input (told entry bytes tells there) status, λ is. much entry bytes tells there (cc));
   }
 
-  module _ (next_at : Progress) (new : Kv D g) (z : O) (next : Lines) (in_new : I) (text : Option (List ℕ)) (text_is : text ≡ text_of next) where
+  module _ (next_at : Progress) (next_place : Option (List ℕ)) (new : Kv D g) (z : O) (next : Lines) (in_new : I) (text : Option (List ℕ)) (text_is : text ≡ text_of next) where
     abbrev step : State → State
     step state = after (limits_of g kv) state (asked_by (spoken_by text))
 
@@ -366,16 +367,16 @@ module _ {D I O : Type 0} (g : disk.Ghosts D) (i : source.Ghosts I) (o : sink.Gh
           told_some Line_at left (left_of i next in_new) (subst (λ (l : Option (List ℕ)). Told Line_at l (left_of i next in_new)) there found)
 
       -- it goes on
-      pub told_line : (done : Unit {0}) → MovesOn g o step at next_at kv new x z (Ok done) → (entry : Stored) (bytes : List ℕ) → Tells g first (opened entry) → reads bytes
-          → Passed g i o (limits_of g first) entry most bytes next_at (disk_of g first).now new x0 z next in_new
+      pub told_line : (done : Unit {0}) → MovesOn g o step at next_at place next_place kv new x z (Ok done) → (entry : Stored) (bytes : List ℕ) → Tells g first (opened entry) → reads bytes
+          → Passed g i o (limits_of g first) entry most bytes next_at next_place (disk_of g first).now new x0 z next in_new
       told_line done moves entry bytes tells there =
           let passed = told entry bytes tells there in
           let line = line_here passed.left passed.there in
-          passed_on g i o (limits_of g first) entry most bytes at (disk_of g first).now kv x0 x it input passed (text_of next) (most_of next) line.0 line.2 next_at new z next in_new line.1 refl
-          (subst (λ (s : State). Reached g o entry s next_at (disk_of g first).now new x0 z) (step_is passed.state) (moves.reached entry passed.state (disk_of g first).now x0 passed.reached))
+          passed_on g i o (limits_of g first) entry most bytes at place (disk_of g first).now kv x0 x it input passed (text_of next) (most_of next) line.0 line.2 next_at next_place new z next in_new line.1 refl
+          (subst (λ (s : State). Reached g o entry s next_at next_place (disk_of g first).now new x0 z) (step_is passed.state) (moves.reached entry passed.state (disk_of g first).now x0 passed.reached))
 
       -- the run is cut short within it
-      pub carries_cut : (stop : Stop) → MovesOn g o step at next_at kv new x z (Err stop) → Carries g o reads run next_at first new x0 z (Err stop)
+      pub carries_cut : (stop : Stop) → MovesOn g o step at next_at place next_place kv new x z (Err stop) → Carries g o reads run next_at first new x0 z (Err stop)
       carries_cut stop moves = record {
         same_reference = moves.same_reference ∙ same_reference;
         unclosed = tt;
@@ -386,7 +387,7 @@ module _ {D I O : Type 0} (g : disk.Ghosts D) (i : source.Ghosts I) (o : sink.Gh
         told = λ entry bytes it_tells there.
             let passed = told entry bytes it_tells there in
             let line = line_here passed.left passed.there in (
-              cut_line g i o (limits_of g first) entry most bytes at (disk_of g first).now kv x0 x it input passed (text_of next) (most_of next) line.0 line.2 stop next_at new z
+              cut_line g i o (limits_of g first) entry most bytes at place (disk_of g first).now kv x0 x it input passed (text_of next) (most_of next) line.0 line.2 stop next_at new z
                   (subst (λ (s : State). CutShort g o entry s.events stop next_at (disk_of g first).now new x0 z) (step_is passed.state) (moves.reached entry passed.state (disk_of g first).now x0 passed.reached)),
               λ is. absurd (no_more_input stop moves.within is),
             );
@@ -400,22 +401,22 @@ module _ {D I O : Type 0} (g : disk.Ghosts D) (i : source.Ghosts I) (o : sink.Gh
           let Last_at : List ℕ → List ℕ → Type 0 = λ before behind. IsLast (most_of it) before (text_of next) × (behind ≡ []) in
           told_some Last_at left (left_of i next in_new) (subst (λ (l : Option (List ℕ)). Told Last_at l (left_of i next in_new)) there found)
 
-      last_told : (result : Result (Unit {0}) Stop) → MovesOn g o step at next_at kv new x z result → (entry : Stored) (bytes : List ℕ) → Tells g first (opened entry) → reads bytes
+      last_told : (result : Result (Unit {0}) Stop) → MovesOn g o step at next_at place next_place kv new x z result → (entry : Stored) (bytes : List ℕ) → Tells g first (opened entry) → reads bytes
           → CarriedBy g o result entry (run entry bytes) next_at (disk_of g first).now new x0 z
       last_told (Ok done) moves entry bytes it_tells there =
           let passed = told entry bytes it_tells there in
           let last = last_here passed.left passed.there in
-          carried_last g i o (limits_of g first) entry most bytes at (disk_of g first).now kv x0 x it input passed (text_of next) last.2.0 next_at new z
-          (subst (λ (s : State). Reached g o entry s next_at (disk_of g first).now new x0 z) (step_is passed.state) (moves.reached entry passed.state (disk_of g first).now x0 passed.reached))
+          carried_last g i o (limits_of g first) entry most bytes at place (disk_of g first).now kv x0 x it input passed (text_of next) last.2.0 next_at next_place new z
+          (subst (λ (s : State). Reached g o entry s next_at next_place (disk_of g first).now new x0 z) (step_is passed.state) (moves.reached entry passed.state (disk_of g first).now x0 passed.reached))
       last_told (Err stop) moves entry bytes it_tells there =
           let passed = told entry bytes it_tells there in
           let last = last_here passed.left passed.there in (
-            cut_last g i o (limits_of g first) entry most bytes at (disk_of g first).now kv x0 x it input passed (text_of next) last.2.0 stop next_at new z
+            cut_last g i o (limits_of g first) entry most bytes at place (disk_of g first).now kv x0 x it input passed (text_of next) last.2.0 stop next_at new z
                 (subst (λ (s : State). CutShort g o entry s.events stop next_at (disk_of g first).now new x0 z) (step_is passed.state) (moves.reached entry passed.state (disk_of g first).now x0 passed.reached)),
             λ is. absurd (no_more_input stop moves.within is),
           )
 
-      pub carries_last : (result : Result (Unit {0}) Stop) → at.done + 2 < 2 ^ 66 → MovesOn g o step at next_at kv new x z result → Carries g o reads run next_at first new x0 z result
+      pub carries_last : (result : Result (Unit {0}) Stop) → at.done + 2 < 2 ^ 66 → MovesOn g o step at next_at place next_place kv new x z result → Carries g o reads run next_at first new x0 z result
       carries_last result few moves = record {
         same_reference = moves.same_reference ∙ same_reference;
         unclosed = moves.unclosed;
@@ -436,7 +437,7 @@ module _ {D I O : Type 0} (g : disk.Ghosts D) (i : source.Ghosts I) (o : sink.Gh
   behind_here in_new found entry bytes it_tells there =
       let passed = told entry bytes it_tells there in
       let part = told_some IsPart passed.left (i.left in_new) (subst (λ (l : Option (List ℕ)). Told IsPart l (i.left in_new)) passed.there found) in
-      part_here g i o (limits_of g first) entry most bytes at (disk_of g first).now kv x0 x it input passed in_new part.0 part.1 part.2
+      part_here g i o (limits_of g first) entry most bytes at place (disk_of g first).now kv x0 x it input passed in_new part.0 part.1 part.2
 
 -- ---- what is left of the input
 

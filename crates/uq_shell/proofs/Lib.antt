@@ -12,8 +12,10 @@ mod Opened
 mod Saving
 mod Served
 mod Settled
+mod Shown
 mod Standing
 mod Stepping
 mod Stopping
 mod Taking
+mod Walking
 mod Whole

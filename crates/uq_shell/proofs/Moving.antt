@@ -15,7 +15,7 @@ use Rattle.uq_kv.specs.Kv.{Tells, disk_of}
 use Rattle.uq_kv.specs.KvLaws.{holds_saved}
 use Rattle.uq_kv.specs.Stored.{Stored}
 use Rattle.uq_kv.specs.declared.kv.Kv.{Kv}
-use Rattle.uq_shell.specs.Commands.{events_of}
+use Rattle.uq_shell.specs.Commands.{Desk, events_of}
 use Rattle.uq_shell.specs.Events.{Event, Out, Commit, IsSavedIn, bytes_of, last_commit, output}
 use Rattle.uq_shell.specs.Followed.{FollowedFiles, IsAcknowledged, Last, RecoversIn, UnderWay}
 use Rattle.uq_shell.specs.Headline.{SinkRose}
@@ -33,10 +33,10 @@ use Rattle.uq_shell.proofs.Doing.{commit_in, event_more, event_next, first_saved
 use Rattle.uq_shell.proofs.Lines.{grows_on, line_ends}
 
 -- the state behind what a command says
-abbrev pub state_behind : State → Said → Session Stored → State
+abbrev pub state_behind : State → Said → Desk → State
 state_behind state said after = record {
-  events = state.events ++ events_of (written_last state) state.session said;
-  session = after;
+  events = state.events ++ events_of (written_last state) state.desk.session said;
+  desk = after;
   is_refused = state.is_refused || said.is_refusal;
 }
 
@@ -44,63 +44,64 @@ state_behind state said after = record {
 abbrev pub SavesBy : Bool → Session Stored → Session Stored → Type 0
 SavesBy commits s after = after.saved ≡ (if commits then s.present else s.saved)
 
-module _ {D O : Type 0} (g : disk.Ghosts D) (o : sink.Ghosts O) (entry : Stored) (state : State) (was : Progress) (said : Said) (after : Session Stored) (disk_first : D) (old new : Kv D g) (x0 x : O)
-    (reached : Reached g o entry state was disk_first old x0 x) (saves : SavesBy said.commits state.session after)
-    (stop : LeavesOnly g (disk_of g old).now (disk_of g new).now (RecoversToEither state.session.saved after.saved)) where
+module _ {D O : Type 0} (g : disk.Ghosts D) (o : sink.Ghosts O) (entry : Stored) (state : State) (was : Progress) (place : Option (List ℕ)) (said : Said) (after : Desk) (disk_first : D) (old new : Kv D g) (x0 x : O)
+    (reached : Reached g o entry state was place disk_first old x0 x) (saves : SavesBy said.commits state.desk.session after.session)
+    (stop : LeavesOnly g (disk_of g old).now (disk_of g new).now (RecoversToEither state.desk.session.saved after.session.saved)) where
   abbrev line : List ℕ
   line = line_after (written_last state) said.text
 
   abbrev more : List Event
-  more = told_by said.commits state.session.present line
+  more = told_by said.commits state.desk.session.present line
 
   abbrev events : List Event
   events = state.events ++ more
 
   -- by what the command says it saves
-  saved_by : (if said.commits then state.session.present else last_commit entry state.events) ≡ after.saved
-  saved_by = ap (λ (saved : Stored). if said.commits then state.session.present else saved) reached.saved ∙ sym saves
+  saved_by : (if said.commits then state.desk.session.present else last_commit entry state.events) ≡ after.session.saved
+  saved_by = ap (λ (saved : Stored). if said.commits then state.desk.session.present else saved) reached.saved ∙ sym saves
 
-  saved_now : last_commit entry events ≡ after.saved
-  saved_now = told_last entry state.events said.commits state.session.present line ∙ saved_by
+  saved_now : last_commit entry events ≡ after.session.saved
+  saved_now = told_last entry state.events said.commits state.desk.session.present line ∙ saved_by
 
   -- all that a stop may leave is saved in its events
   before_in : (files : Files) → RecoversIn entry state.events files → RecoversIn entry events files
   before_in files was_in = record { stored = was_in.stored; saved = saved_more entry was_in.stored state.events more was_in.saved; recovers = was_in.recovers }
 
-  either_in : (files : Files) → RecoversToEither state.session.saved after.saved files → RecoversIn entry events files
+  either_in : (files : Files) → RecoversToEither state.desk.session.saved after.session.saved files → RecoversIn entry events files
   either_in files (inl was_saved) =
       let P : Stored → Type 0 = λ it. IsSavedIn entry events it in
-      record { stored = state.session.saved; saved = subst P reached.saved (saved_last entry state.events more); recovers = was_saved }
+      record { stored = state.desk.session.saved; saved = subst P reached.saved (saved_last entry state.events more); recovers = was_saved }
   either_in files (inr now_saved) =
       let P : Stored → Type 0 = λ it. IsSavedIn entry events it in
-      record { stored = after.saved; saved = subst P saved_by (told_saved entry state.events said.commits state.session.present line); recovers = now_saved }
+      record { stored = after.session.saved; saved = subst P saved_by (told_saved entry state.events said.commits state.desk.session.present line); recovers = now_saved }
 
   moments : LeavesOnly g disk_first (disk_of g new).now (RecoversIn entry events)
   moments =
       goes_on g (RecoversIn entry events) disk_first (disk_of g old).now (disk_of g new).now
       (weaker g (RecoversIn entry state.events) (RecoversIn entry events) disk_first (disk_of g old).now before_in reached.stop)
-      (weaker g (RecoversToEither state.session.saved after.saved) (RecoversIn entry events) (disk_of g old).now (disk_of g new).now either_in stop)
+      (weaker g (RecoversToEither state.desk.session.saved after.session.saved) (RecoversIn entry events) (disk_of g old).now (disk_of g new).now either_in stop)
 
   same_line : line_after was.last said.text ≡ line
   same_line = ap (λ (last : Option ℕ). line_after last said.text) (sym reached.last)
 
   -- the reply is put out
-  pub reached_on : (now : Progress) (z : O) → Tells g new after
+  pub reached_on : (now : Progress) (place_now : Option (List ℕ)) (z : O) → place_now ≡ after.cursor → Tells g new after.session
       → now ≡ record { done = was.done + commits_before said.commits + 1; last = Some 0x0a; is_refused = was.is_refused || said.is_refusal }
-      → Grows (line_after was.last said.text) (o.written x) (o.written z) → o.faults z ≡ o.faults x → Reached g o entry (state_behind state said after) now disk_first new x0 z
-  reached_on now z tells progress written quiet =
-      let count : length events ≡ length state.events + commits_before said.commits + 1 = told_count state.events said.commits state.session.present line in
+      → Grows (line_after was.last said.text) (o.written x) (o.written z) → o.faults z ≡ o.faults x → Reached g o entry (state_behind state said after) now place_now disk_first new x0 z
+  reached_on now place_now z cursor tells progress written quiet =
+      let count : length events ≡ length state.events + commits_before said.commits + 1 = told_count state.events said.commits state.desk.session.present line in
       let done : now.done ≡ was.done + commits_before said.commits + 1 = ap (λ (it : Progress). it.done) progress in
       let was_done = reached.done in
       record {
         done = omega arith;
         last =
-            ap last_byte (told_output state.events said.commits state.session.present line) ∙ line_ends (flat_map bytes_of state.events) (written_last state) said.text
+            ap last_byte (told_output state.events said.commits state.desk.session.present line) ∙ line_ends (flat_map bytes_of state.events) (written_last state) said.text
             ∙ sym (ap (λ (it : Progress). it.last) progress);
         refused = ap (λ (b : Bool). b || said.is_refusal) reached.refused ∙ sym (ap (λ (it : Progress). it.is_refused) progress);
         tells = tells;
+        cursor = cursor;
         saved = saved_now;
-        written = subst (λ (l : List ℕ). Grows l (o.written x0) (o.written z)) (sym (told_output state.events said.commits state.session.present line))
+        written = subst (λ (l : List ℕ). Grows l (o.written x0) (o.written z)) (sym (told_output state.events said.commits state.desk.session.present line))
             (grows_on (flat_map bytes_of state.events) line (o.written x0) (o.written x) (o.written z) reached.written
             (subst (λ (l : List ℕ). Grows l (o.written x) (o.written z)) same_line written));
         quiet = quiet ∙ reached.quiet;
@@ -118,45 +119,45 @@ module _ {D O : Type 0} (g : disk.Ghosts D) (o : sink.Ghosts O) (entry : Stored)
   before_first : (files : Files) → RecoversIn entry state.events files → RecoversIn entry first files
   before_first files was_in = record { stored = was_in.stored; saved = saved_more entry was_in.stored state.events (take 1 more) was_in.saved; recovers = was_in.recovers }
 
-  either_first : (files : Files) → RecoversToEither state.session.saved after.saved files → RecoversIn entry first files
+  either_first : (files : Files) → RecoversToEither state.desk.session.saved after.session.saved files → RecoversIn entry first files
   either_first files (inl was_saved) =
       let P : Stored → Type 0 = λ it. IsSavedIn entry first it in
-      record { stored = state.session.saved; saved = subst P reached.saved (saved_last entry state.events (take 1 more)); recovers = was_saved }
+      record { stored = state.desk.session.saved; saved = subst P reached.saved (saved_last entry state.events (take 1 more)); recovers = was_saved }
   either_first files (inr now_saved) =
       let P : Stored → Type 0 = λ it. IsSavedIn entry first it in
-      record { stored = after.saved; saved = subst P saved_by (first_saved entry state.events said.commits state.session.present line); recovers = now_saved }
+      record { stored = after.session.saved; saved = subst P saved_by (first_saved entry state.events said.commits state.desk.session.present line); recovers = now_saved }
 
   first_moments : LeavesOnly g disk_first (disk_of g new).now (RecoversIn entry (take (was.done + 1) events))
   first_moments = subst (λ (l : List Event). LeavesOnly g disk_first (disk_of g new).now (RecoversIn entry l)) (sym first_is)
       (goes_on g (RecoversIn entry first) disk_first (disk_of g old).now (disk_of g new).now
       (weaker g (RecoversIn entry state.events) (RecoversIn entry first) disk_first (disk_of g old).now before_first reached.stop)
-      (weaker g (RecoversToEither state.session.saved after.saved) (RecoversIn entry first) (disk_of g old).now (disk_of g new).now either_first stop))
+      (weaker g (RecoversToEither state.desk.session.saved after.session.saved) (RecoversIn entry first) (disk_of g old).now (disk_of g new).now either_first stop))
 
-  was_last : state.session.saved ≡ last_commit entry (take was.done events)
+  was_last : state.desk.session.saved ≡ last_commit entry (take was.done events)
   was_last = sym reached.saved ∙ sym (ap (last_commit entry) (take_at state.events more was.done reached.done))
 
   -- what was saved, or the commit under way
-  exit_either : (files : Files) → RecoversToEither state.session.saved after.saved files → (b : Bool) → said.commits ≡ b → FollowedFiles entry events was.done files
-  exit_either files (inl was_saved) b is = record { stored = state.session.saved; acknowledged = Last was_last; recovers = was_saved }
+  exit_either : (files : Files) → RecoversToEither state.desk.session.saved after.session.saved files → (b : Bool) → said.commits ≡ b → FollowedFiles entry events was.done files
+  exit_either files (inl was_saved) b is = record { stored = state.desk.session.saved; acknowledged = Last was_last; recovers = was_saved }
   exit_either files (inr now_saved) true is =
-      let there : after.saved ≡ state.session.present = saves ∙ ap (λ (b : Bool). if b then state.session.present else state.session.saved) is in
-      let under_way = subst (λ (b : Bool). slice_get (state.events ++ told_by b state.session.present line) was.done ≡ Some (Commit state.session.present)) (sym is)
-      (event_next state.events (Out line ∷ []) (Commit state.session.present) was.done reached.done) in
-      record { stored = state.session.present; acknowledged = UnderWay under_way; recovers = subst (λ (it : Stored). RecoversTo it files) there now_saved }
+      let there : after.session.saved ≡ state.desk.session.present = saves ∙ ap (λ (b : Bool). if b then state.desk.session.present else state.desk.session.saved) is in
+      let under_way = subst (λ (b : Bool). slice_get (state.events ++ told_by b state.desk.session.present line) was.done ≡ Some (Commit state.desk.session.present)) (sym is)
+      (event_next state.events (Out line ∷ []) (Commit state.desk.session.present) was.done reached.done) in
+      record { stored = state.desk.session.present; acknowledged = UnderWay under_way; recovers = subst (λ (it : Stored). RecoversTo it files) there now_saved }
   exit_either files (inr now_saved) false is =
-      let there : after.saved ≡ state.session.saved = saves ∙ ap (λ (b : Bool). if b then state.session.present else state.session.saved) is in
-      record { stored = state.session.saved; acknowledged = Last was_last; recovers = subst (λ (it : Stored). RecoversTo it files) there now_saved }
+      let there : after.session.saved ≡ state.desk.session.saved = saves ∙ ap (λ (b : Bool). if b then state.desk.session.present else state.desk.session.saved) is in
+      record { stored = state.desk.session.saved; acknowledged = Last was_last; recovers = subst (λ (it : Stored). RecoversTo it files) there now_saved }
 
   pub cut_by_store : Laws g → (status : Status) → (IsTrue (row status).is_answered → ⊥) → CutShort g o entry events (At status) was disk_first new x0 x
   cut_by_store laws status unanswered =
-      let count : length events ≡ length state.events + commits_before said.commits + 1 = told_count state.events said.commits state.session.present line in
+      let count : length events ≡ length state.events + commits_before said.commits + 1 = told_count state.events said.commits state.desk.session.present line in
       let was_done = reached.done in
       let put : output was.done events ≡ flat_map bytes_of state.events = output_done state.events more was.done reached.done in
       record {
         inside = omega arith;
         any_moment = first_moments;
         at_exit = λ files may.
-            exit_either files (at_end g (RecoversToEither state.session.saved after.saved) laws.counts_now (disk_of g old).now (disk_of g new).now stop files may) said.commits refl;
+            exit_either files (at_end g (RecoversToEither state.desk.session.saved after.session.saved) laws.counts_now (disk_of g old).now (disk_of g new).now stop files may) said.commits refl;
         written = λ _ _. subst (λ (l : List ℕ). Grows l (o.written x0) (o.written x)) (sym put) reached.written;
         last = λ _ _. ap last_byte put ∙ reached.last;
         quiet = λ _ _. reached.quiet;
@@ -166,71 +167,71 @@ module _ {D O : Type 0} (g : disk.Ghosts D) (o : sink.Ghosts O) (entry : Stored)
 
   -- ---- the sink failed within the reply
 
-  half : (now : Progress) → now.done ≡ was.done + commits_before said.commits → take now.done events ≡ state.events ++ commit_in said.commits state.session.present
-  half now done = ap (λ (n : ℕ). take n events) done ∙ half_taken state.events state.session.present line was.done reached.done said.commits
+  half : (now : Progress) → now.done ≡ was.done + commits_before said.commits → take now.done events ≡ state.events ++ commit_in said.commits state.desk.session.present
+  half now done = ap (λ (n : ℕ). take n events) done ∙ half_taken state.events state.desk.session.present line was.done reached.done said.commits
 
-  saved_half : (now : Progress) → now.done ≡ was.done + commits_before said.commits → after.saved ≡ last_commit entry (take now.done events)
-  saved_half now done = sym (ap (last_commit entry) (half now done) ∙ half_last entry state.events said.commits state.session.present ∙ saved_by)
+  saved_half : (now : Progress) → now.done ≡ was.done + commits_before said.commits → after.session.saved ≡ last_commit entry (take now.done events)
+  saved_half now done = sym (ap (last_commit entry) (half now done) ∙ half_last entry state.events said.commits state.desk.session.present ∙ saved_by)
 
-  pub cut_by_sink : (now : Progress) (z : O) (count : ℕ) → Tells g new after
+  pub cut_by_sink : (now : Progress) (z : O) (count : ℕ) → Tells g new after.session
       → now ≡ record { done = was.done + commits_before said.commits; last = was.last; is_refused = was.is_refused }
       → Grows (take count (line_after was.last said.text)) (o.written x) (o.written z) → SinkRose o x z → CutShort g o entry events Sink now disk_first new x0 z
   cut_by_sink now z count tells progress written rose =
-      let all : length events ≡ length state.events + commits_before said.commits + 1 = told_count state.events said.commits state.session.present line in
+      let all : length events ≡ length state.events + commits_before said.commits + 1 = told_count state.events said.commits state.desk.session.present line in
       let done : now.done ≡ was.done + commits_before said.commits = ap (λ (it : Progress). it.done) progress in
       let was_done = reached.done in
       let whole : take (now.done + 1) events ≡ events = take_all (now.done + 1) events (omega arith) in
-      let holds = holds_saved g new after tells in
-      let put : output now.done events ≡ flat_map bytes_of state.events = ap (flat_map bytes_of) (half now done) ∙ silent state.events said.commits state.session.present in
+      let holds = holds_saved g new after.session tells in
+      let put : output now.done events ≡ flat_map bytes_of state.events = ap (flat_map bytes_of) (half now done) ∙ silent state.events said.commits state.desk.session.present in
       record {
         inside = omega arith;
         any_moment = subst (λ (l : List Event). LeavesOnly g disk_first (disk_of g new).now (RecoversIn entry l)) (sym whole) moments;
         at_exit = λ files may. record {
-          stored = after.saved;
+          stored = after.session.saved;
           acknowledged = Last (saved_half now done);
-          recovers = subst (RecoversTo after.saved) (sym (holds.settled files may)) holds.recovers;
+          recovers = subst (RecoversTo after.session.saved) (sym (holds.settled files may)) holds.recovers;
         };
         written = λ _ is. absurd (cc);
         last = λ _ is. absurd (cc);
         quiet = λ _ is. absurd (cc);
         part = λ _. record {
           event = line;
-          under_way = ap (λ (n : ℕ). slice_get events n) done ∙ half_event state.events state.session.present line was.done reached.done said.commits;
+          under_way = ap (λ (n : ℕ). slice_get events n) done ∙ half_event state.events state.desk.session.present line was.done reached.done said.commits;
           count = count;
           written = subst (λ (l : List ℕ). Grows (l ++ take count line) (o.written x0) (o.written z)) (sym put)
               (grows_on (flat_map bytes_of state.events) (take count line) (o.written x0) (o.written x) (o.written z) reached.written
               (subst (λ (l : List ℕ). Grows (take count l) (o.written x) (o.written z)) same_line written));
           rose = let quiet = reached.quiet in rw (← quiet) rose;
         };
-        tells = λ _. (after, tells, saved_half now done);
+        tells = λ _. (after.session, tells, saved_half now done);
       }
 
 -- ---- a run that goes on no further
 
 module _ {D O : Type 0} (g : disk.Ghosts D) (o : sink.Ghosts O) where
   -- between two commands
-  pub reached_cut : (entry : Stored) (state : State) (at : Progress) (disk_first : D) (kv : Kv D g) (x0 x : O) (status : Status) → Reached g o entry state at disk_first kv x0 x
+  pub reached_cut : (entry : Stored) (state : State) (at : Progress) (place : Option (List ℕ)) (disk_first : D) (kv : Kv D g) (x0 x : O) (status : Status) → Reached g o entry state at place disk_first kv x0 x
       → CutShort g o entry state.events (At status) at disk_first kv x0 x
-  reached_cut entry state at disk_first kv x0 x status reached =
+  reached_cut entry state at place disk_first kv x0 x status reached =
       let done = reached.done in
       let more : take (at.done + 1) state.events ≡ state.events = take_all (at.done + 1) state.events (omega arith) in
       let all : take at.done state.events ≡ state.events = take_all at.done state.events (omega arith) in
       let put : output at.done state.events ≡ flat_map bytes_of state.events = ap (flat_map bytes_of) all in
-      let last : state.session.saved ≡ last_commit entry (take at.done state.events) = sym (ap (last_commit entry) all ∙ reached.saved) in
-      let holds = holds_saved g kv state.session reached.tells in
+      let last : state.desk.session.saved ≡ last_commit entry (take at.done state.events) = sym (ap (last_commit entry) all ∙ reached.saved) in
+      let holds = holds_saved g kv state.desk.session reached.tells in
       record {
         inside = omega arith;
         any_moment = subst (λ (l : List Event). LeavesOnly g disk_first (disk_of g kv).now (RecoversIn entry l)) (sym more) reached.stop;
         at_exit = λ files may. record {
-          stored = state.session.saved;
+          stored = state.desk.session.saved;
           acknowledged = Last last;
-          recovers = subst (RecoversTo state.session.saved) (sym (holds.settled files may)) holds.recovers;
+          recovers = subst (RecoversTo state.desk.session.saved) (sym (holds.settled files may)) holds.recovers;
         };
         written = λ _ _. subst (λ (l : List ℕ). Grows l (o.written x0) (o.written x)) (sym put) reached.written;
         last = λ _ _. ap last_byte put ∙ reached.last;
         quiet = λ _ _. reached.quiet;
         part = λ is. absurd (cc);
-        tells = λ _. (state.session, reached.tells, last);
+        tells = λ _. (state.desk.session, reached.tells, last);
       }
 
   -- whatever events stand behind

@@ -1,5 +1,5 @@
 -- A run over an open store: it is carried out, and ends.
-use Rattle.std.proofs.Common.{◌≡◌, ◌⊎◌, ◌≤◌, ◌<◌, ℕ, ◌+◌, ◌^◌, Bool, true, false, List, [], ◌∷◌, length, map, Vec, Global, Some, None, Result, Ok, Err, inl, inr, refl, sym, ap, subst, ◌∙◌, arith}
+use Rattle.std.proofs.Common.{◌≡◌, ◌⊎◌, ◌≤◌, ◌<◌, ℕ, ◌+◌, ◌^◌, Bool, true, false, List, [], ◌∷◌, length, map, Vec, Global, Option, Some, None, Result, Ok, Err, inl, inr, refl, sym, ap, subst, ◌∙◌, arith}
 use Rattle.std.specs.Prelude.{IfErr, IsTrue, OnOk}
 use Rattle.std.specs.Borrow.{MutBor}
 use Rattle.uq_outside.specs.declared.disk.Disk as disk
@@ -57,8 +57,8 @@ module _ {D I O : Type 0} (g : disk.Ghosts D) (i : source.Ghosts I) (o : sink.Gh
     ends = λ entry bytes tells reads.
         let carried = carries.carries.told entry bytes tells reads in
         ends_else g o entry (followed limits (start entry) words most bytes) _ (disk_of g old).now (disk_of g new).now x z ended
-        (subst (λ (r : Outcome). Ends g o entry r ⊥ (disk_of g old).now (disk_of g new).now x z ended) carried.2
-        (settles.ends entry carried.0 (disk_of g old).now x carried.1 carries.carries.stands.later));
+        (subst (λ (r : Outcome). Ends g o entry r ⊥ (disk_of g old).now (disk_of g new).now x z ended) carried.3
+        (settles.ends entry carried.0 carried.1 (disk_of g old).now x carried.2 carries.carries.stands.later));
     behind = λ entry bytes tells reads is. absurd (settled_other now.is_refused ended.status Stream settles.status is (λ e. cc) (λ e. cc) (λ e. cc));
     anywhere = anywhere_else g o _ _ (disk_of g old).now (disk_of g new).now x z ended (settles.anywhere (disk_of g old).now x carries.carries.stands);
     input = record {
@@ -156,22 +156,22 @@ module _ {D I O : Type 0} (g : disk.Ghosts D) (i : source.Ghosts I) (o : sink.Gh
       })
 
   -- what a command leaves, up to the end of the run
-  told_by : (result : Result (Unit {0}) Stop) (entry : Stored) (state : State) (disk_first : D) (x y : O) → ReachedBy g o result entry state now disk_first new x y → IfErr result (λ stop. IsTrue (is_of_command stop))
+  told_by : (result : Result (Unit {0}) Stop) (entry : Stored) (state : State) (place : Option (List ℕ)) (disk_first : D) (x y : O) → ReachedBy g o result entry state now place disk_first new x y → IfErr result (λ stop. IsTrue (is_of_command stop))
       → CarriedBy g o result entry (at_end state) now disk_first new x y
-  told_by (Ok done) entry state disk_first x y reached within = (state, reached, refl)
-  told_by (Err stop) entry state disk_first x y cut within =
-      (cut_more g o entry state.events (commit_at_end state.session) stop now disk_first new x y cut, λ is. absurd (no_more_input stop within is))
+  told_by (Ok done) entry state place disk_first x y reached within = (state, place, reached, refl)
+  told_by (Err stop) entry state place disk_first x y cut within =
+      (cut_more g o entry state.events (commit_at_end state.desk.session) stop now disk_first new x y cut, λ is. absurd (no_more_input stop within is))
 
   few_within : (was : Progress) (result : Result (Unit {0}) Stop) → was ≡ at_start → OnOk result (now.done ≤ was.done + 2) → OnOk result (now.done < 2 ^ 66)
   few_within was (Ok done) begins few = let none : was.done ≡ 0 = ap (λ (p : Progress). p.done) begins in omega arith
   few_within was (Err stop) begins few = tt
 
   -- the words of a command
-  pub carries_words : Laws g → limits_of g old ≡ limits → (asked : Request) (words : List (List ℕ)) (was : Progress) (input : I) (x y : O) (result : Result (Unit {0}) Stop) → (words ≡ [] → ⊥) → asked ≡ request words
-      → was ≡ at_start → is_begun_of g old ≡ false → MovesOn g o (λ state. obeyed_in (limits_of g old) state asked) was now old new x y result → ReadsBy g o asked old new → PutsNone g o result was now x y
+  pub carries_words : Laws g → limits_of g old ≡ limits → (asked : Request) (words : List (List ℕ)) (was : Progress) (place_old place_new : Option (List ℕ)) (input : I) (x y : O) (result : Result (Unit {0}) Stop) → (words ≡ [] → ⊥) → asked ≡ request words
+      → was ≡ at_start → place_old ≡ None → is_begun_of g old ≡ false → MovesOn g o (λ state. obeyed_in (limits_of g old) state asked) was now place_old place_new old new x y result → ReadsBy g o asked old new → PutsNone g o result was now x y
       → CarriesOut g i o limits words most now old new input input x y result
-  carries_words laws limits_are asked [] was input x y result some is begins idle moves reads silent = absurd (some refl)
-  carries_words laws limits_are asked (name ∷ others) was input x y result some is begins idle moves reads silent = record {
+  carries_words laws limits_are asked [] was place_old place_new input x y result some is begins unset idle moves reads silent = absurd (some refl)
+  carries_words laws limits_are asked (name ∷ others) was place_old place_new input x y result some is begins unset idle moves reads silent = record {
     carries = record {
       same_reference = moves.same_reference;
       unclosed = moves.unclosed;
@@ -182,8 +182,8 @@ module _ {D I O : Type 0} (g : disk.Ghosts D) (i : source.Ghosts I) (o : sink.Gh
       told = λ entry bytes tells _.
           subst (λ (l : Limits). CarriedBy g o result entry (at_end (obeyed_in l (start entry) (request (name ∷ others)))) now (disk_of g old).now new x y) limits_are
           (subst (λ (a : Request). CarriedBy g o result entry (at_end (obeyed_in (limits_of g old) (start entry) a)) now (disk_of g old).now new x y) is
-          (told_by result entry (obeyed_in (limits_of g old) (start entry) asked) (disk_of g old).now x y
-          (moves.reached entry (start entry) (disk_of g old).now x (reached_start g o laws entry was old x begins tells)) moves.within));
+          (told_by result entry (obeyed_in (limits_of g old) (start entry) asked) place_new (disk_of g old).now x y
+          (moves.reached entry (start entry) (disk_of g old).now x (reached_start g o laws entry was place_old old x begins unset tells)) moves.within));
     };
     behind = λ failed. absurd (let no : is_of_command (At Stream) ≡ true = never result (At Stream) moves.within failed in cc);
     unread = λ _. refl;

@@ -1,5 +1,5 @@
 -- The end of the input behind the events that are done: a commit that is done, one that failed, or none to make.
-use Rattle.std.proofs.Common.{◌≡◌, ◌≤◌, ℕ, ◌+◌, Bool, true, false, if◌then◌else◌, List, [], ◌∷◌, ◌++◌, length, take, Some, inl, inr, refl, sym, ap, subst, ◌∙◌, arith, length-append}
+use Rattle.std.proofs.Common.{◌≡◌, ◌≤◌, ℕ, ◌+◌, Bool, true, false, if◌then◌else◌, List, Option, [], ◌∷◌, ◌++◌, length, take, Some, inl, inr, refl, sym, ap, subst, ◌∙◌, arith, length-append}
 use Rattle.std.proofs.lemmas.List.{take_all, take_at}
 use Rattle.std.specs.Prelude.{slice_get}
 use Rattle.std.specs.List.{flat_map}
@@ -46,85 +46,85 @@ committed_is : (b : Bool) (s : Session Stored) → (b ≡ false → s.present �
 committed_is true s idle = refl
 committed_is false s idle = sym (idle refl)
 
-module _ {D O : Type 0} (g : disk.Ghosts D) (o : sink.Ghosts O) (entry : Stored) (state : State) (at : Progress) (disk_first : D) (old new : Kv D g) (x0 x : O)
-    (reached : Reached g o entry state at disk_first old x0 x)
-    (stop : LeavesOnly g (disk_of g old).now (disk_of g new).now (RecoversToEither state.session.saved state.session.present)) where
+module _ {D O : Type 0} (g : disk.Ghosts D) (o : sink.Ghosts O) (entry : Stored) (state : State) (at : Progress) (place : Option (List ℕ)) (disk_first : D) (old new : Kv D g) (x0 x : O)
+    (reached : Reached g o entry state at place disk_first old x0 x)
+    (stop : LeavesOnly g (disk_of g old).now (disk_of g new).now (RecoversToEither state.desk.session.saved state.desk.session.present)) where
   abbrev events : List Event
-  events = state.events ++ commit_in state.session.begun state.session.present
+  events = state.events ++ commit_in state.desk.session.begun state.desk.session.present
 
-  present_is : (if state.session.begun then state.session.present else last_commit entry state.events) ≡ state.session.present
-  present_is = there entry state.events state.session reached.saved state.session.begun reached.tells.idle
+  present_is : (if state.desk.session.begun then state.desk.session.present else last_commit entry state.events) ≡ state.desk.session.present
+  present_is = there entry state.events state.desk.session reached.saved state.desk.session.begun reached.tells.idle
 
-  count_is : length events ≡ at.done + commits_before state.session.begun
+  count_is : length events ≡ at.done + commits_before state.desk.session.begun
   count_is =
-      let count = commit_count state.events state.session.begun state.session.present in
+      let count = commit_count state.events state.desk.session.begun state.desk.session.present in
       let done = reached.done in
       omega arith
 
   before_in : (files : Files) → RecoversIn entry state.events files → RecoversIn entry events files
   before_in files is = record {
     stored = is.stored;
-    saved = saved_more entry is.stored state.events (commit_in state.session.begun state.session.present) is.saved;
+    saved = saved_more entry is.stored state.events (commit_in state.desk.session.begun state.desk.session.present) is.saved;
     recovers = is.recovers;
   }
 
-  either_in : (files : Files) → RecoversToEither state.session.saved state.session.present files → RecoversIn entry events files
+  either_in : (files : Files) → RecoversToEither state.desk.session.saved state.desk.session.present files → RecoversIn entry events files
   either_in files (inl was) =
       let P : Stored → Type 0 = λ it. IsSavedIn entry events it in
-      record { stored = state.session.saved; saved = subst P reached.saved (saved_last entry state.events (commit_in state.session.begun state.session.present)); recovers = was }
+      record { stored = state.desk.session.saved; saved = subst P reached.saved (saved_last entry state.events (commit_in state.desk.session.begun state.desk.session.present)); recovers = was }
   either_in files (inr now) =
       let P : Stored → Type 0 = λ it. IsSavedIn entry events it in
-      record { stored = state.session.present; saved = subst P present_is (commit_saved entry state.events state.session.begun state.session.present); recovers = now }
+      record { stored = state.desk.session.present; saved = subst P present_is (commit_saved entry state.events state.desk.session.begun state.desk.session.present); recovers = now }
 
   moments : (n : ℕ) → length events ≤ n → LeavesOnly g disk_first (disk_of g new).now (RecoversIn entry (take n events))
   moments n all = subst (λ (l : List Event). LeavesOnly g disk_first (disk_of g new).now (RecoversIn entry l)) (sym (take_all n events all))
       (goes_on g (RecoversIn entry events) disk_first (disk_of g old).now (disk_of g new).now
       (weaker g (RecoversIn entry state.events) (RecoversIn entry events) disk_first (disk_of g old).now before_in reached.stop)
-      (weaker g (RecoversToEither state.session.saved state.session.present) (RecoversIn entry events) (disk_of g old).now (disk_of g new).now either_in stop))
+      (weaker g (RecoversToEither state.desk.session.saved state.desk.session.present) (RecoversIn entry events) (disk_of g old).now (disk_of g new).now either_in stop))
 
   -- what is begun is committed
-  pub settled : (source_rose : Type 0) (n : ℕ) → n ≡ at.done + commits_before state.session.begun → Tells g new (committed state.session) → LeavesNow g (disk_of g new).now state.session.present
+  pub settled : (source_rose : Type 0) (n : ℕ) → n ≡ at.done + commits_before state.desk.session.begun → Tells g new (committed state.desk.session) → LeavesNow g (disk_of g new).now state.desk.session.present
       → Ends g o entry (ended_at state) source_rose disk_first (disk_of g new).now x0 x (record { status = status_of state.is_refused; done = n })
   settled source_rose n is tells now =
       let count = count_is in
       let whole : take n events ≡ events = take_all n events (omega arith) in
-      let put : output n events ≡ flat_map bytes_of state.events = ap (flat_map bytes_of) whole ∙ silent state.events state.session.begun state.session.present in
-      let last : state.session.present ≡ last_commit entry (take n events)
-      = sym (ap (last_commit entry) whole ∙ half_last entry state.events state.session.begun state.session.present ∙ present_is) in
-      let saved : (committed state.session).saved ≡ last_commit entry (take n events) = committed_is state.session.begun state.session reached.tells.idle ∙ last in
+      let put : output n events ≡ flat_map bytes_of state.events = ap (flat_map bytes_of) whole ∙ silent state.events state.desk.session.begun state.desk.session.present in
+      let last : state.desk.session.present ≡ last_commit entry (take n events)
+      = sym (ap (last_commit entry) whole ∙ half_last entry state.events state.desk.session.begun state.desk.session.present ∙ present_is) in
+      let saved : (committed state.desk.session).saved ≡ last_commit entry (take n events) = committed_is state.desk.session.begun state.desk.session reached.tells.idle ∙ last in
       record {
         meets = meets_whole o x0 x (ended_at state) source_rose n state.is_refused (subst (λ (l : List ℕ). Grows l (o.written x0) (o.written x)) (sym put) reached.written) refl (is ∙ sym count);
         recovers = record {
           any_moment = moments (n + 1) (omega arith);
-          at_exit = λ files may. record { stored = state.session.present; acknowledged = Last last; recovers = now files may };
+          at_exit = λ files may. record { stored = state.desk.session.present; acknowledged = Last last; recovers = now files may };
         };
-        holds = λ _. subst (λ (it : Stored). Holds g (disk_of g new).now it) saved (holds_saved g new (committed state.session) tells);
+        holds = λ _. subst (λ (it : Stored). Holds g (disk_of g new).now it) saved (holds_saved g new (committed state.desk.session) tells);
         complete = λ _ _. inl refl;
       }
 
-  was_last : state.session.saved ≡ last_commit entry (take at.done events)
-  was_last = sym reached.saved ∙ sym (ap (last_commit entry) (take_at state.events (commit_in state.session.begun state.session.present) at.done reached.done))
+  was_last : state.desk.session.saved ≡ last_commit entry (take at.done events)
+  was_last = sym reached.saved ∙ sym (ap (last_commit entry) (take_at state.events (commit_in state.desk.session.begun state.desk.session.present) at.done reached.done))
 
-  exit_either : (files : Files) → RecoversToEither state.session.saved state.session.present files → (b : Bool) → state.session.begun ≡ b → FollowedFiles entry events at.done files
-  exit_either files (inl was) b is = record { stored = state.session.saved; acknowledged = Last was_last; recovers = was }
+  exit_either : (files : Files) → RecoversToEither state.desk.session.saved state.desk.session.present files → (b : Bool) → state.desk.session.begun ≡ b → FollowedFiles entry events at.done files
+  exit_either files (inl was) b is = record { stored = state.desk.session.saved; acknowledged = Last was_last; recovers = was }
   exit_either files (inr now) true is =
-      let under_way = subst (λ (b : Bool). slice_get (state.events ++ commit_in b state.session.present) at.done ≡ Some (Commit state.session.present)) (sym is)
-      (event_next state.events [] (Commit state.session.present) at.done reached.done) in
-      record { stored = state.session.present; acknowledged = UnderWay under_way; recovers = now }
+      let under_way = subst (λ (b : Bool). slice_get (state.events ++ commit_in b state.desk.session.present) at.done ≡ Some (Commit state.desk.session.present)) (sym is)
+      (event_next state.events [] (Commit state.desk.session.present) at.done reached.done) in
+      record { stored = state.desk.session.present; acknowledged = UnderWay under_way; recovers = now }
   exit_either files (inr now) false is =
-      record { stored = state.session.saved; acknowledged = Last was_last; recovers = subst (λ (it : Stored). RecoversTo it files) (reached.tells.idle is) now }
+      record { stored = state.desk.session.saved; acknowledged = Last was_last; recovers = subst (λ (it : Stored). RecoversTo it files) (reached.tells.idle is) now }
 
   -- the commit failed
   pub settled_cut : Laws g → CutShort g o entry events (At Disk) at disk_first new x0 x
   settled_cut laws =
       let count = count_is in
-      let few : commits_before state.session.begun ≤ 1 = one state.session.begun in
-      let put : output at.done events ≡ flat_map bytes_of state.events = output_done state.events (commit_in state.session.begun state.session.present) at.done reached.done in
+      let few : commits_before state.desk.session.begun ≤ 1 = one state.desk.session.begun in
+      let put : output at.done events ≡ flat_map bytes_of state.events = output_done state.events (commit_in state.desk.session.begun state.desk.session.present) at.done reached.done in
       record {
         inside = omega arith;
         any_moment = moments (at.done + 1) (omega arith);
         at_exit = λ files may.
-            exit_either files (at_end g (RecoversToEither state.session.saved state.session.present) laws.counts_now (disk_of g old).now (disk_of g new).now stop files may) state.session.begun refl;
+            exit_either files (at_end g (RecoversToEither state.desk.session.saved state.desk.session.present) laws.counts_now (disk_of g old).now (disk_of g new).now stop files may) state.desk.session.begun refl;
         written = λ _ _. subst (λ (l : List ℕ). Grows l (o.written x0) (o.written x)) (sym put) reached.written;
         last = λ _ _. ap last_byte put ∙ reached.last;
         quiet = λ _ _. reached.quiet;

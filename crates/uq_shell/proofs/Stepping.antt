@@ -1,6 +1,8 @@
 -- A command as a step of the store.
-use Rattle.std.proofs.Common.{◌≡◌, ◌⊎◌, Bool, true, false, Some, None, Result, Ok, Err, if◌then◌else◌, inl, inr, refl, sym, ap, subst, ◌∙◌, arith}
-use Rattle.std.specs.Prelude.{IfOk, OnOk, []}
+use Rattle.std.proofs.Common.{Vec, Global, ◌≡◌, ◌⊎◌, ℕ, Bool, true, false, not, List, Option, Some, None, Result, Ok, Err, if◌then◌else◌, inl, inr, refl, sym, ap, subst, ◌∙◌, arith}
+use Rattle.std.specs.FinMap.{contains_key}
+use Rattle.std.specs.Option.{option_map}
+use Rattle.std.specs.Prelude.{IfOk, IsTrue, OnOk, []}
 use Rattle.uq_facts.specs.Causes.{Rose}
 use Rattle.uq_outside.specs.declared.disk.Disk.{Ghosts}
 use Rattle.uq_outside.specs.Files.{Files}
@@ -9,19 +11,24 @@ use Rattle.uq_outside.specs.SinceLaws.{started, weaker}
 use Rattle.uq_journal.specs.Calls.{IsStill}
 use Rattle.uq_model.specs.Session.{Call, Session, opened}
 use Rattle.uq_model.specs.declared.cause.Cause.{Cause}
+use Rattle.uq_model.specs.declared.limits.Limits.{Limits}
 use Rattle.uq_kv.specs.Holds.{RecoversTo, RecoversToEither}
-use Rattle.uq_kv.specs.Kv.{Does, HasCauses, KeepsKv, LeavesSaved, LeavesSavedOrPresent, Tells, closed_of, disk_of, is_begun_of}
+use Rattle.uq_kv.specs.Kv.{Does, HasCauses, KeepsKv, LeavesSaved, LeavesSavedOrPresent, Tells, closed_of, disk_of, is_begun_of, limits_of}
 use Rattle.uq_kv.specs.KvLaws.{holds_saved}
-use Rattle.uq_kv.specs.Calls.{FailsBy, closed_by}
-use Rattle.uq_kv.specs.Stored.{Stored}
-use Rattle.uq_kv.specs.declared.error.KvFault.TheVariants.{Closed}
+use Rattle.uq_kv.specs.Calls.{FailsBy, behind, closed_by, is_answered, is_stop, seen_by}
+use Rattle.uq_kv.specs.Cursor.{IsLeft, IsMoved, sought}
+use Rattle.uq_kv.specs.Lengths.{key_checked}
+use Rattle.uq_kv.specs.Stored.{Stored, stored_key}
+use Rattle.uq_kv.specs.declared.error.KvFault.TheVariants.{Closed, NotFound}
 use Rattle.uq_kv.specs.declared.error.KvFault.{KvFault}
 use Rattle.uq_kv.specs.declared.kv.Kv.{Kv}
-use Rattle.uq_shell.specs.Answers.{Leaves, LeavesAlike, LeavesEither, SaysBy}
-use Rattle.uq_shell.specs.Commands.{Request, commits_one, refuses_words, said_at, saying, writing}
-use Rattle.uq_shell.specs.Replies.{Said, said_in}
+use Rattle.uq_kv.specs.declared.space.Space.TheVariants.{Keys}
+use Rattle.uq_json.specs.Quote.{quoted}
+use Rattle.uq_shell.specs.Answers.{DoesAsAsked, Leaves, LeavesAlike, LeavesEither, SaysBy}
+use Rattle.uq_shell.specs.Commands.{Request, beside, commits_one, goes_to, place_sought, reading, said_at, saying, says_key, seeks_key, writing}
+use Rattle.uq_shell.specs.Moves.{Shows, key_shown}
+use Rattle.uq_shell.specs.Replies.{Said, said_in, says}
 use Rattle.uq_shell.specs.declared.answering.Answer.{Answer}
-use Rattle.uq_shell.specs.declared.reply.Refusal.{Refusal}
 use Rattle.uq_shell.specs.declared.status.Status.{Status}
 use Rattle.uq_shell.specs.declared.status.Status.TheVariants.{Disk, NotDatabase, Memory}
 use Rattle.uq_shell.proofs.Alike.{alike_here, still_here}
@@ -104,6 +111,58 @@ module _ {D : Type 0} (g : Ghosts D) (old new : Kv D g) where
     ]
   ]
 
+  -- where the cursor stays, so does its place
+  pub beside_does : (call : Limits → Call Stored Said) (writes : Bool) (was now : Option (List ℕ)) (result : Result Answer Status) → now ≡ was
+      → IfOk result (λ (answer : Answer). (s : Session Stored) → Tells g old s → (said_in answer ≡ (call (limits_of g old) s).0) × Tells g new (call (limits_of g old) s).1)
+      → IfOk result (DoesAsAsked g (record { writes = writes; does = beside call }) old new was now)
+  beside_does call writes was now (Ok answer) same does = λ s tells. let did = does s tells in (did.0, did.1, same)
+  beside_does call writes was now (Err status) same does = tt
+
+  -- ---- what moves the cursor
+
+  -- the key at a place is said, or that there is none
+  said_key : (place : Option (List ℕ)) → said_at (λ (key : List ℕ). says (quoted key)) (key_shown place) ≡ says_key place
+  said_key None = refl
+  said_key (Some stored) = refl
+
+  pub step_goes : (place : Option (List ℕ) → Stored → Option (List ℕ)) (was now : Option (List ℕ)) (outcome : Result (Vec ℕ Global) KvFault) (result : Result Answer Status)
+      → SaysBy (λ (key : Vec ℕ Global). says (quoted key.items)) outcome result → Shows g (place was) old new now outcome → IfOk result (DoesAsAsked g (reading (goes_to place)) old new was now)
+  step_goes place was now outcome (Ok answer) says_by shows = λ s tells.
+      let both = said_is (λ (key : Vec ℕ Global). key.items) (λ (key : List ℕ). says (quoted key)) outcome (said_in answer) says_by.said in
+      let did = shows.shows s tells both.1 in
+      (both.0 ∙ ap (said_at (λ (key : List ℕ). says (quoted key))) did.1 ∙ said_key (place was s.present), did.2, did.0)
+  step_goes place was now outcome (Err status) says_by shows = tt
+
+  -- a search leaves the session
+  sought_stays : (checked : Result (Unit {0}) KvFault) (f : Session Stored → Result (Unit {0}) KvFault) (s : Session Stored) → (behind checked (λ s. (f s, s)) s).1 ≡ s
+  sought_stays (Ok done) f s = refl
+  sought_stays (Err fault) f s = refl
+
+  -- where the cursor is behind it
+  place_is : (key : List ℕ) (was now : Option (List ℕ)) (outcome : Result (Unit {0}) KvFault) → OnOk outcome (now ≡ Some key) → IsMoved was now outcome → IsTrue (is_answered outcome)
+      → option_map (stored_key Keys) now ≡ place_sought key outcome
+  place_is key was now (Ok done) at moved answered = ap (option_map (stored_key Keys)) at
+  place_is key was now (Err fault) at moved answered = by (is_stop fault) answered moved
+    where
+      by : (stop : Bool) → IsTrue (not stop) → IsLeft stop was now → option_map (stored_key Keys) now ≡ None
+      by true answered left = absurd (cc)
+      by false answered left = ap (option_map (stored_key Keys)) left
+
+  seen_same : (outcome : Result (Unit {0}) KvFault) → seen_by (λ (done : Unit {0}). done) outcome ≡ outcome
+  seen_same (Ok done) = refl
+  seen_same (Err fault) = refl
+
+  pub step_seeks : (key : List ℕ) (was now : Option (List ℕ)) (outcome : Result (Unit {0}) KvFault) (result : Result Answer Status)
+      → SaysBy (λ (done : Unit {0}). says (quoted key)) outcome result → Does g (λ (done : Unit {0}). done) (sought key) old new outcome → OnOk outcome (now ≡ Some key) → IsMoved was now outcome
+      → (before : Option (List ℕ)) → IfOk result (DoesAsAsked g (reading (seeks_key key)) old new before (option_map (stored_key Keys) now))
+  step_seeks key was now outcome (Ok answer) says_by does at moved before = λ s tells.
+      let both = said_is (λ (done : Unit {0}). done) (λ (done : Unit {0}). says (quoted key)) outcome (said_in answer) says_by.said in
+      let did = does s tells both.1 in
+      let found : outcome ≡ (sought key s).0 = sym (seen_same outcome) ∙ did.0 in
+      let stays = sought_stays (key_checked key) (λ (s : Session Stored). if contains_key s.present (stored_key Keys key) then Ok tt else Err NotFound) s in
+      (both.0 ∙ ap (said_at (λ (done : Unit {0}). says (quoted key))) did.0, subst (Tells g new) stays did.1, place_is key was now outcome at moved both.1 ∙ ap (place_sought key) found)
+  step_seeks key was now outcome (Err status) says_by does at moved before = tt
+
   -- ---- what a command leaves, by the call of the store that it makes
 
   no_error : (answer : Answer) (status : Status) → ◌≡◌ {A = Result Answer Status} (Ok answer) (Err status) → ⊥
@@ -112,13 +171,13 @@ module _ {D : Type 0} (g : Ghosts D) (old new : Kv D g) where
   same_status : (a b : Status) → ◌≡◌ {A = Result Answer Status} (Err a) (Err b) → a ≡ b
   same_status a b is = cc
 
-  pub leaves : {T : Type 0} (asked : Request) (say : T → Said) (outcome : Result T KvFault) (result : Result Answer Status) → SaysBy say outcome result
-      → closed_of g old ≡ None → KeepsKv g old new → HasCauses g old new outcome → LeavesEither g asked old new
+  pub leaves : {T : Type 0} (asked : Request) (was : Option (List ℕ)) (say : T → Said) (outcome : Result T KvFault) (result : Result Answer Status) → SaysBy say outcome result
+      → closed_of g old ≡ None → KeepsKv g old new → HasCauses g old new outcome → LeavesEither g asked old new was
       → (asked.writes ≡ false → IsStill g (disk_of g old).now (disk_of g new).now)
       → (asked.writes ≡ false → is_begun_of g old ≡ false → is_begun_of g new ≡ false)
       → (is_begun_of g old ≡ false → LeavesAlike g (disk_of g old).now (disk_of g new).now)
-      → Leaves g asked old new result
-  leaves asked say outcome (Ok answer) says unclosed keeps causes stop still idle kept = record {
+      → Leaves g asked old new was result
+  leaves asked was say outcome (Ok answer) says unclosed keeps causes stop still idle kept = record {
     same_reference = keeps.same_reference;
     limits = keeps.limits;
     stop = stop;
@@ -130,7 +189,7 @@ module _ {D : Type 0} (g : Ghosts D) (old new : Kv D g) where
     corrupt = λ is. absurd (no_error answer NotDatabase is);
     others = tt;
   }
-  leaves asked say outcome (Err status) says unclosed keeps causes stop still idle kept = record {
+  leaves asked was say outcome (Err status) says unclosed keeps causes stop still idle kept = record {
     same_reference = keeps.same_reference;
     limits = keeps.limits;
     stop = stop;
@@ -144,8 +203,8 @@ module _ {D : Type 0} (g : Ghosts D) (old new : Kv D g) where
   }
 
   -- a call that saves nothing leaves what was saved
-  pub stop_saved : (asked : Request) → LeavesSaved g old new → LeavesEither g asked old new
-  stop_saved asked stop = λ s tells.
+  pub stop_saved : (asked : Request) (was : Option (List ℕ)) → LeavesSaved g old new → LeavesEither g asked old new was
+  stop_saved asked was stop = λ s tells.
       weaker g (RecoversTo s.saved) (RecoversToEither s.saved _) (disk_of g old).now (disk_of g new).now (λ files was. inl was) (stop s tells)
 
   -- a commit saves what is there, where one is begun; else that is what was saved
@@ -155,18 +214,18 @@ module _ {D : Type 0} (g : Ghosts D) (old new : Kv D g) where
   what_is_saved false s idle files (inl was) = inl was
   what_is_saved false s idle files (inr now) = inl (subst (λ (it : Stored). RecoversTo it files) (idle refl) now)
 
-  pub stop_commit : LeavesSavedOrPresent g old (disk_of g new) → LeavesEither g (writing commits_one) old new
-  stop_commit stop = λ s tells.
+  pub stop_commit : (was : Option (List ℕ)) → LeavesSavedOrPresent g old (disk_of g new) → LeavesEither g (writing (beside commits_one)) old new was
+  stop_commit was stop = λ s tells.
       weaker g (RecoversToEither s.saved s.present) (RecoversToEither s.saved _) (disk_of g old).now (disk_of g new).now (what_is_saved s.begun s tells.idle) (stop s tells)
 
--- words that ask for nothing make no call
-pub leaves_refused : {D : Type 0} (g : Ghosts D) (laws : Laws g) (it : Kv D g) (refusal : Refusal) (answer : Answer) → Leaves g {T = Answer} (refuses_words refusal) it it (Ok answer)
-leaves_refused g laws it refusal answer = record {
+-- words that ask nothing of the store make no call
+pub leaves_here : {D : Type 0} (g : Ghosts D) (laws : Laws g) (it : Kv D g) (asked : Request) (was : Option (List ℕ)) (answer : Answer) → Leaves g {T = Answer} asked it it was (Ok answer)
+leaves_here g laws it asked was answer = record {
   same_reference = refl;
   limits = refl;
   stop = λ s tells.
       let holds = holds_saved g it s tells in
-      started g (RecoversToEither s.saved s.saved) laws.only_now (disk_of g it).now (λ files may. inl (subst (RecoversTo s.saved) (sym (holds.settled files may)) holds.recovers));
+      started g (RecoversToEither s.saved _) laws.only_now (disk_of g it).now (λ files may. inl (subst (RecoversTo s.saved) (sym (holds.settled files may)) holds.recovers));
   still = λ _. still_here g laws (disk_of g it).now;
   kept = λ _. alike_here g laws (disk_of g it).now;
   idle = λ _ none. none;

@@ -1,5 +1,5 @@
 -- What a run leaves at the end of its words or its input, or where it is cut short.
-use Rattle.std.specs.Prelude.{◌≡◌, ◌≤◌, ◌<◌, ◌^◌, ◌++◌, ℕ, true, List, [], ◌∷◌, length, Some, None, Result, Ok, Err, OnOk, IfErr, IsTrue}
+use Rattle.std.specs.Prelude.{◌≡◌, ◌≤◌, ◌<◌, ◌^◌, ◌++◌, ℕ, true, List, Option, [], ◌∷◌, length, Some, None, Result, Ok, Err, OnOk, IfErr, IsTrue}
 use Rattle.std.specs.Option.{ForSome}
 use Rattle.uq_facts.specs.Causes.{Rose}
 use Rattle.uq_outside.specs.declared.disk.Disk as disk
@@ -49,7 +49,8 @@ module _ {I : Type 0} (i : source.Ghosts I) where
 module _ {D O : Type 0} (g : disk.Ghosts D) (o : sink.Ghosts O) where
   -- What this run means was done up to the end of the input, or in part.
   abbrev pub CarriedBy : Result (Unit {0}) Stop → Stored → Outcome → Progress → D → Kv D g → O → O → Type 0
-  CarriedBy (Ok done) entry run at disk_first kv out_first out = (state : State) × Reached g o entry state at disk_first kv out_first out × (at_end state ≡ run)
+  CarriedBy (Ok done) entry run at disk_first kv out_first out =
+      (state : State) × (place : Option (List ℕ)) × Reached g o entry state at place disk_first kv out_first out × (at_end state ≡ run)
   CarriedBy (Err stop) entry run at disk_first kv out_first out =
       CutShort g o entry run.events stop at disk_first kv out_first out
       × (stop ≡ At TooMuchInput → (run.status ≡ TooMuchInput) × (at.done ≡ length run.events))

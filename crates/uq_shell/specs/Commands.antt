@@ -1,30 +1,45 @@
--- The commands: a table of their names and forms, and what each means over a session.
-use Rattle.std.specs.Prelude.{ℕ, Bool, true, false, bytes_eq, if◌then◌else◌, List, [], ◌∷◌, ◌++◌, Option, Some, None, Result, Ok, Err}
+-- The commands: a table of their names and forms, and what each means over a session and the place of the cursor.
+use Rattle.std.specs.Prelude.{ℕ, drop, Bool, true, false, bytes_eq, if◌then◌else◌, List, [], ◌∷◌, ◌++◌, Option, Some, None, Result, Ok, Err}
 use Rattle.uq_json.specs.Quote.{quoted}
 use Rattle.std.specs.Prelude.{codes}
 use Rattle.uq_model.specs.Session.{Call, Session, begun, committed, rolled_back}
 use Rattle.uq_model.specs.declared.limits.Limits.{Limits}
 use Rattle.uq_kv.specs.Calls.{appends, deletes, fetches, stores}
-use Rattle.uq_kv.specs.Stored.{Stored}
+use Rattle.uq_kv.specs.Cursor.{data_at, deletes_at, is_valid, key_at, sought}
+use Rattle.uq_kv.specs.Stored.{Stored, stored_key}
 use Rattle.uq_kv.specs.declared.error.KvFault.{KvFault}
 use Rattle.uq_kv.specs.declared.space.Space.TheVariants.{Keys}
 use Rattle.uq_shell.specs.Events.{Event, Out, Commit}
 use Rattle.uq_shell.specs.Line.{line_after}
 use Rattle.uq_shell.specs.Replies.{Said, refuses, says, says_ok, taken_as}
 use Rattle.uq_shell.specs.Statuses.{row}
+use Rattle.uq_shell.specs.Walks.{first_key, last_key, next_key, prev_key}
 use Rattle.uq_shell.specs.declared.reply.Refusal.{Refusal}
-use Rattle.uq_shell.specs.declared.reply.Refusal.TheVariants.{BadCommand, UnknownCommand}
+use Rattle.uq_shell.specs.declared.reply.Refusal.TheVariants.{BadCommand, NoEntry, UnknownCommand}
 use Rattle.uq_shell.specs.declared.status.Status.{Status}
 
--- what words ask for: whether it may write, and what it says and makes of a session
+-- where a command stands: a session, and the stored key at which the cursor is; None where it is unset
+pub record Desk : Type 0 where
+  pub session : Session Stored
+  pub cursor : Option (List ℕ)
+
+-- what words ask for: whether it may write, and what it says and makes of a desk
 pub record Request : Type 0 where
   pub writes : Bool
-  pub does : Limits → Call Stored Said
+  pub does : Limits → Desk → Said × Desk
 
-abbrev pub reading : (Limits → Call Stored Said) → Request
+-- a call that knows nothing of the cursor
+abbrev pub beside : (Limits → Call Stored Said) → Limits → Desk → Said × Desk
+beside call limits desk = ((call limits desk.session).0, record { session = (call limits desk.session).1; cursor = desk.cursor })
+
+-- a call at the key of the cursor, which leaves the cursor
+abbrev pub at_cursor : (Option (List ℕ) → Call Stored Said) → Limits → Desk → Said × Desk
+at_cursor call limits desk = beside (λ _. call desk.cursor) limits desk
+
+abbrev pub reading : (Limits → Desk → Said × Desk) → Request
 reading does = record { writes = false; does = does }
 
-abbrev pub writing : (Limits → Call Stored Said) → Request
+abbrev pub writing : (Limits → Desk → Said × Desk) → Request
 writing does = record { writes = true; does = does }
 
 -- ---- the meaning of each command
@@ -67,7 +82,48 @@ abbrev pub rolls_back_one : Limits → Call Stored Said
 rolls_back_one limits s = (says_ok, rolled_back s)
 
 abbrev pub refuses_words : Refusal → Request
-refuses_words refusal = reading (λ limits s. (refuses refusal, s))
+refuses_words refusal = reading (λ limits desk. (refuses refusal, desk))
+
+-- ---- the cursor
+
+-- the user's key, as a JSON string; a stored key has one byte before it
+abbrev pub says_key : Option (List ℕ) → Said
+says_key None = refuses NoEntry
+says_key (Some stored) = says (quoted (drop 1 stored))
+
+-- it goes there; where there is none it is unset
+abbrev pub goes_to : (Option (List ℕ) → Stored → Option (List ℕ)) → Limits → Desk → Said × Desk
+goes_to place limits desk =
+    (says_key (place desk.cursor desk.session.present), record { session = desk.session; cursor = place desk.cursor desk.session.present })
+
+-- to a key that is there; a refusal unsets it
+abbrev pub place_sought : List ℕ → Result (Unit {0}) KvFault → Option (List ℕ)
+place_sought key (Ok done) = Some (stored_key Keys key)
+place_sought key (Err fault) = None
+
+abbrev pub seeks_key : List ℕ → Limits → Desk → Said × Desk
+seeks_key key limits desk =
+    let found = (sought key desk.session).0 in
+    (said_at (λ _. says (quoted key)) found, record { session = desk.session; cursor = place_sought key found })
+
+abbrev pub tells_key : Option (List ℕ) → Call Stored Said
+tells_key at = saying (λ key. says (quoted key)) (key_at at)
+
+abbrev pub tells_data : Option (List ℕ) → Call Stored Said
+tells_data at = saying (λ found. says (quoted found)) (data_at at)
+
+abbrev pub drops_entry : Option (List ℕ) → Call Stored Said
+drops_entry at = saying (λ _. says_ok) (deletes_at at)
+
+abbrev pub says_truth : Bool → Said
+says_truth true = says (codes "yes")
+says_truth false = says (codes "no")
+
+abbrev pub tells_valid : Option (List ℕ) → Call Stored Said
+tells_valid at = saying says_truth (is_valid at)
+
+abbrev pub resets_cursor : Limits → Desk → Said × Desk
+resets_cursor limits desk = (says_ok, record { session = desk.session; cursor = None })
 
 -- ---- the table
 
@@ -87,13 +143,23 @@ row_of name form = record { name = name; form = form }
 
 abbrev pub commands : List Row
 commands =
-    row_of (codes "store") (TwoWords (λ key value. writing (stores_key key value)))
-    ∷ row_of (codes "append") (TwoWords (λ key more. writing (appends_key key more)))
-    ∷ row_of (codes "fetch") (OneWord (λ key. reading (fetches_key key)))
-    ∷ row_of (codes "delete") (OneWord (λ key. writing (deletes_key key)))
-    ∷ row_of (codes "begin") (NoWord (writing begins_one))
-    ∷ row_of (codes "commit") (NoWord (writing commits_one))
-    ∷ row_of (codes "rollback") (NoWord (reading rolls_back_one))
+    row_of (codes "store") (TwoWords (λ key value. writing (beside (stores_key key value))))
+    ∷ row_of (codes "append") (TwoWords (λ key more. writing (beside (appends_key key more))))
+    ∷ row_of (codes "fetch") (OneWord (λ key. reading (beside (fetches_key key))))
+    ∷ row_of (codes "delete") (OneWord (λ key. writing (beside (deletes_key key))))
+    ∷ row_of (codes "begin") (NoWord (writing (beside begins_one)))
+    ∷ row_of (codes "commit") (NoWord (writing (beside commits_one)))
+    ∷ row_of (codes "rollback") (NoWord (reading (beside rolls_back_one)))
+    ∷ row_of (codes "seek") (OneWord (λ key. reading (seeks_key key)))
+    ∷ row_of (codes "first") (NoWord (reading (goes_to first_key)))
+    ∷ row_of (codes "last") (NoWord (reading (goes_to last_key)))
+    ∷ row_of (codes "next") (NoWord (reading (goes_to next_key)))
+    ∷ row_of (codes "prev") (NoWord (reading (goes_to prev_key)))
+    ∷ row_of (codes "key") (NoWord (reading (at_cursor tells_key)))
+    ∷ row_of (codes "data") (NoWord (reading (at_cursor tells_data)))
+    ∷ row_of (codes "drop") (NoWord (writing (at_cursor drops_entry)))
+    ∷ row_of (codes "valid") (NoWord (reading (at_cursor tells_valid)))
+    ∷ row_of (codes "reset") (NoWord (reading resets_cursor))
     ∷ []
 
 -- the words in this form; another number of words is refused

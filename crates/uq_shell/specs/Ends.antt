@@ -1,5 +1,5 @@
 -- What a run leaves, over a store that was opened.
-use Rattle.std.specs.Prelude.{◌≡◌, ◌⊎◌, ◌≤◌, ℕ, false, List, [], ◌∷◌, length, take, slice_get, Some, None}
+use Rattle.std.specs.Prelude.{◌≡◌, ◌⊎◌, ◌≤◌, ℕ, false, List, Option, [], ◌∷◌, length, take, slice_get, Some, None}
 use Rattle.uq_facts.specs.Causes.{Rose}
 use Rattle.uq_outside.specs.declared.disk.Disk as disk
 use Rattle.uq_outside.specs.declared.sink.Sink as sink
@@ -75,7 +75,8 @@ module _ {D O : Type 0} (g : disk.Ghosts D) (o : sink.Ghosts O) where
     pub status : (ended.status ≡ status_of at.is_refused) ⊎ (ended.status ≡ Disk)
     pub anywhere : (disk_first : D) (out_first : O) → Stands g o at disk_first old out_first out_old
         → EndsAnywhere ⊥ ⊥ disk_first (disk_of g new).now out_first out_new ended
-    pub ends : (entry : Stored) (state : State) (disk_first : D) (out_first : O) → Reached g o entry state at disk_first old out_first out_old
+    pub ends : (entry : Stored) (state : State) (place : Option (List ℕ)) (disk_first : D) (out_first : O)
+        → Reached g o entry state at place disk_first old out_first out_old
         → g.faults disk_first ≤ g.faults (disk_of g old).now → Ends entry (at_end state) ⊥ disk_first (disk_of g new).now out_first out_new ended
     pub idle : is_begun_of g old ≡ false → disk_of g new ≡ disk_of g old
 

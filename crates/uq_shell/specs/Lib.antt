@@ -6,10 +6,12 @@ pub mod Events
 pub mod Followed
 pub mod Headline
 pub mod Line
+pub mod Moves
 pub mod Obeys
 pub mod Reached
 pub mod Replies
 pub mod Run
 pub mod Statuses
 pub mod Stream
+pub mod Walks
 pub mod Within

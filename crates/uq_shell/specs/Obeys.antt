@@ -1,5 +1,5 @@
 -- What one command does to where a run stands.
-use Rattle.std.specs.Prelude.{◌≡◌, ◌≤◌, ◌+◌, ◌||◌, ℕ, Bool, false, if◌then◌else◌, take, Some, None, Result, Ok, Err, OnOk, IfErr, IsTrue}
+use Rattle.std.specs.Prelude.{◌≡◌, ◌≤◌, ◌+◌, ◌||◌, ℕ, List, Option, Bool, false, if◌then◌else◌, take, Some, None, Result, Ok, Err, OnOk, IfErr, IsTrue}
 use Rattle.uq_outside.specs.declared.disk.Disk as disk
 use Rattle.uq_outside.specs.declared.sink.Sink as sink
 use Rattle.uq_outside.specs.Streams.{Grows}
@@ -66,7 +66,8 @@ module _ {O : Type 0} (o : sink.Ghosts O) where
 
 module _ {D O : Type 0} (g : disk.Ghosts D) (o : sink.Ghosts O) where
   -- Behind each state comes this one, or the run is cut short on the way to it.
-  pub record MovesOn (next : State → State) (was now : Progress) (old new : Kv D g) (out_old out_new : O) (result : Result (Unit {0}) Stop) : Type 0 where
+  pub record MovesOn (next : State → State) (was now : Progress) (place_old place_new : Option (List ℕ)) (old new : Kv D g)
+      (out_old out_new : O) (result : Result (Unit {0}) Stop) : Type 0 where
     pub same_reference : (disk_of g new).ghost_name ≡ (disk_of g old).ghost_name
     pub limits : limits_of g new ≡ limits_of g old
     pub unclosed : OnOk result (closed_of g new ≡ None)
@@ -76,8 +77,8 @@ module _ {D O : Type 0} (g : disk.Ghosts D) (o : sink.Ghosts O) where
     -- a session that is told is told on, and is no cause for `not a database`
     pub tells : IsTold g o old → OnOk result (IsTold g o new)
     pub not_database : result ≡ Err (At NotDatabase) → IsTold g o old → ⊥
-    pub reached : (entry : Stored) (state : State) (disk_first : D) (out_first : O) → Reached g o entry state was disk_first old out_first out_old
-        → ReachedBy g o result entry (next state) now disk_first new out_first out_new
+    pub reached : (entry : Stored) (state : State) (disk_first : D) (out_first : O) → Reached g o entry state was place_old disk_first old out_first out_old
+        → ReachedBy g o result entry (next state) now place_new disk_first new out_first out_new
 
   -- what asks to write nothing leaves the disk as it is
   pub record ReadsBy (asked : Request) (old new : Kv D g) : Type 0 where

@@ -1,5 +1,5 @@
 -- Where a run stands between two commands, and how it may be cut short there.
-use Rattle.std.specs.Prelude.{◌≡◌, ◌≤◌, ◌+◌, ◌++◌, ℕ, Bool, true, false, List, length, take, slice_get, Some, Result, Ok, Err, IsTrue}
+use Rattle.std.specs.Prelude.{◌≡◌, ◌≤◌, ◌+◌, ◌++◌, ℕ, Bool, true, false, List, Option, length, take, slice_get, Some, Result, Ok, Err, IsTrue}
 use Rattle.std.specs.List.{flat_map}
 use Rattle.uq_facts.specs.Causes.{Rose}
 use Rattle.uq_outside.specs.declared.disk.Disk as disk
@@ -83,12 +83,14 @@ module _ {D O : Type 0} (g : disk.Ghosts D) (o : sink.Ghosts O) where
   IsTold kv = (s : Session Stored) × Tells g kv s
 
   -- The events of the state are done: they are written, and what a stop leaves is what they saved.
-  pub record Reached (entry : Stored) (state : State) (at : Progress) (disk_first : D) (kv : Kv D g) (out_first out : O) : Type 0 where
+  pub record Reached (entry : Stored) (state : State) (at : Progress) (place : Option (List ℕ)) (disk_first : D) (kv : Kv D g)
+      (out_first out : O) : Type 0 where
     pub done : length state.events ≡ at.done
     pub last : written_last state ≡ at.last
     pub refused : state.is_refused ≡ at.is_refused
-    pub tells : Tells g kv state.session
-    pub saved : last_commit entry state.events ≡ state.session.saved
+    pub tells : Tells g kv state.desk.session
+    pub cursor : place ≡ state.desk.cursor
+    pub saved : last_commit entry state.events ≡ state.desk.session.saved
     pub written : Grows (flat_map bytes_of state.events) (o.written out_first) (o.written out)
     pub quiet : o.faults out ≡ o.faults out_first
     pub stop : LeavesOnly g disk_first (disk_of g kv).now (RecoversIn entry state.events)
@@ -105,6 +107,6 @@ module _ {D O : Type 0} (g : disk.Ghosts D) (o : sink.Ghosts O) where
     -- the session is told still, unless the store failed
     pub tells : IsTrue (row (status_at stop)).is_answered → (s : Session Stored) × Tells g kv s × (s.saved ≡ last_commit entry (take at.done events))
 
-  abbrev pub ReachedBy : Result (Unit {0}) Stop → Stored → State → Progress → D → Kv D g → O → O → Type 0
-  ReachedBy (Ok done) entry state at disk_first kv out_first out = Reached entry state at disk_first kv out_first out
-  ReachedBy (Err stop) entry state at disk_first kv out_first out = CutShort entry state.events stop at disk_first kv out_first out
+  abbrev pub ReachedBy : Result (Unit {0}) Stop → Stored → State → Progress → Option (List ℕ) → D → Kv D g → O → O → Type 0
+  ReachedBy (Ok done) entry state at place disk_first kv out_first out = Reached entry state at place disk_first kv out_first out
+  ReachedBy (Err stop) entry state at place disk_first kv out_first out = CutShort entry state.events stop at disk_first kv out_first out

@@ -87,11 +87,15 @@ says_ok = says (codes "ok")
 abbrev pub text_of : Reply → List ℕ
 text_of reply.Ok = codes "ok"
 text_of (reply.Data text) = text.items
+text_of reply.Yes = codes "yes"
+text_of reply.No = codes "no"
 text_of (reply.Refused refusal) = refusal_text refusal
 
 abbrev pub is_refused : Reply → Bool
 is_refused reply.Ok = false
 is_refused (reply.Data text) = false
+is_refused reply.Yes = false
+is_refused reply.No = false
 is_refused (reply.Refused refusal) = true
 
 abbrev pub said_in : Answer → Said

@@ -1,27 +1,27 @@
 -- What a run over words and an input means.
 use Rattle.std.specs.Prelude.{ℕ, Bool, false, ◌||◌, nat_lt, if◌then◌else◌, List, [], ◌∷◌, ◌++◌, length, take, Option, Some, None}
 use Rattle.std.specs.List.{flat_map}
-use Rattle.uq_model.specs.Session.{Session, opened}
+use Rattle.uq_model.specs.Session.{opened}
 use Rattle.uq_model.specs.declared.limits.Limits.{Limits}
 use Rattle.uq_kv.specs.Stored.{Stored}
 use Rattle.uq_words.specs.Lines.{Spoken, Silent, TooLong, NoWords, Says, lines, spoken}
 use Rattle.uq_words.specs.Options.{Asked, order_of_words}
-use Rattle.uq_shell.specs.Commands.{Request, events_of, refuses_words, request}
+use Rattle.uq_shell.specs.Commands.{Desk, Request, events_of, refuses_words, request}
 use Rattle.uq_shell.specs.Events.{Event, bytes_of}
 use Rattle.uq_shell.specs.Line.{last_byte}
 use Rattle.uq_shell.specs.Run.{Outcome, ended_with}
 use Rattle.uq_shell.specs.declared.reply.Refusal.TheVariants.{BadCommand, LineTooLong}
 use Rattle.uq_shell.specs.declared.status.Status.TheVariants.{TooMuchInput, Usage}
 
--- where a run stands: its events so far, the session, and whether a reply was a refusal
+-- where a run stands: its events so far, the session and the cursor, and whether a reply was a refusal
 pub record State : Type 0 where
   pub events : List Event
-  pub session : Session Stored
+  pub desk : Desk
   pub is_refused : Bool
 
--- nothing is begun, over what is stored at entry
+-- nothing is begun, over what is stored at entry, and the cursor is unset
 abbrev pub start : Stored → State
-start entry = record { events = []; session = opened entry; is_refused = false }
+start entry = record { events = []; desk = record { session = opened entry; cursor = None }; is_refused = false }
 
 -- ---- one command, and one line
 
@@ -31,10 +31,10 @@ written_last state = last_byte (flat_map bytes_of state.events)
 
 abbrev pub obeyed_in : Limits → State → Request → State
 obeyed_in limits state asked =
-    let did = asked.does limits state.session in
+    let did = asked.does limits state.desk in
     record {
-      events = state.events ++ events_of (written_last state) state.session did.0;
-      session = did.1;
+      events = state.events ++ events_of (written_last state) state.desk.session did.0;
+      desk = did.1;
       is_refused = state.is_refused || did.0.is_refusal;
     }
 
@@ -62,7 +62,7 @@ heard_all limits state (raw ∷ others) = heard_all limits (heard limits state r
 
 -- what is begun is committed at the end of the input
 abbrev pub at_end : State → Outcome
-at_end state = ended_with state.events state.session state.is_refused
+at_end state = ended_with state.events state.desk.session state.is_refused
 
 -- where more input is left than is read, nothing more is committed
 abbrev pub cut_off : State → Outcome

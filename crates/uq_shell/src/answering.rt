@@ -1,16 +1,19 @@
 //! Commands are answered by the store.
-ghost use Rattle.std.specs.Prelude.{◌≡◌, true, false, None, IfOk, OnOk, IfErr};
+ghost use Rattle.std.specs.Prelude.{◌≡◌, true, false, None, IfOk, OnOk};
+ghost use Rattle.uq_kv.specs.Cursor.{place_of};
 ghost use Rattle.uq_kv.specs.Kv.{closed_of, is_begun_of};
 ghost use Rattle.uq_json.specs.Quote.{quoted};
 ghost use Rattle.uq_shell.specs.Answers.{DoesAsAsked, Leaves, RefusesBy, SaysBy, request_of};
+ghost use Rattle.uq_shell.specs.Commands.{says_truth};
 ghost use Rattle.uq_shell.specs.Replies.{says, says_ok};
 
 use crate::Status;
 use crate::command::Command;
+use crate::cursor::go;
 use crate::reply::{Reply, refusal_of};
 use std::alloc::Global;
 use uq_json::quote;
-use uq_kv::{Kv, KvFault, Space};
+use uq_kv::{Cursor, Kv, KvFault, Space};
 use uq_outside::Disk;
 
 /// What a command answers.
@@ -39,12 +42,13 @@ pub fn answer_command<D: Disk>(
     alloc: Global,
     command: Command<'_>,
     kv: &mut Kv<'_, D>,
+    cursor: &mut Cursor,
 ) -> Result<Answer, Status>
     requires { closed_of D.Disk kv.old ≡ None }
-    ensures does { IfOk result (DoesAsAsked D.Disk (request_of command.entry) kv.old kv.new) }
+    ensures does { IfOk result (DoesAsAsked D.Disk (request_of command.entry) kv.old kv.new (place_of cursor.old) (place_of cursor.new)) }
     ensures open { OnOk result (closed_of D.Disk kv.new ≡ None) }
     ensures whether { IfOk result (λ answer. answer.commits ≡ true → is_begun_of D.Disk kv.old ≡ true) }
-    ensures leaves { Leaves D.Disk (request_of command.entry) kv.old kv.new result }
+    ensures leaves { Leaves D.Disk (request_of command.entry) kv.old kv.new (place_of cursor.old) result }
 {
     match command {
         Command::Store { key, value } => done(kv.store(alloc, Space::Keys, key, value)),
@@ -54,6 +58,16 @@ pub fn answer_command<D: Disk>(
         Command::Begin => done(kv.begin()),
         Command::Commit => committed(kv.commit()),
         Command::Rollback => done(kv.rollback()),
+        Command::Seek { key } => sought(alloc, kv.cursor_seek(alloc, cursor, key), key),
+        Command::Go(to) => found(alloc, go(alloc, to, kv, cursor)),
+        Command::Key => found(alloc, kv.cursor_key(alloc, cursor)),
+        Command::Data => found(alloc, kv.cursor_data(alloc, cursor)),
+        Command::Drop => done(kv.cursor_delete(alloc, cursor)),
+        Command::Valid => told(kv.cursor_valid(alloc, cursor)),
+        Command::Reset => {
+            kv.cursor_reset(cursor);
+            Ok(replying(Reply::Ok))
+        }
         Command::Refused(refusal) => Ok(replying(Reply::Refused(refusal))),
     }
 }
@@ -100,6 +114,30 @@ fn found(alloc: Global, outcome: Result<Vec<u8>, KvFault>) -> Result<Answer, Sta
             Ok(text) => Ok(replying(Reply::Data(text))),
             Err(_) => Err(Status::Memory),
         },
+        Err(fault) => refused(fault),
+    }
+}
+
+/// The answer to a search for a key: the key as a JSON string.
+fn sought(alloc: Global, outcome: Result<(), KvFault>, key: &[u8]) -> Result<Answer, Status>
+    ensures { SaysBy (λ _. says (quoted key.now)) outcome result }
+{
+    match outcome {
+        Ok(()) => match quote(alloc, key) {
+            Ok(text) => Ok(replying(Reply::Data(text))),
+            Err(_) => Err(Status::Memory),
+        },
+        Err(fault) => refused(fault),
+    }
+}
+
+/// The answer to a question.
+fn told(outcome: Result<bool, KvFault>) -> Result<Answer, Status>
+    ensures { SaysBy says_truth outcome result }
+{
+    match outcome {
+        Ok(true) => Ok(replying(Reply::Yes)),
+        Ok(false) => Ok(replying(Reply::No)),
         Err(fault) => refused(fault),
     }
 }

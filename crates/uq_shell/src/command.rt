@@ -4,6 +4,7 @@ ghost use Rattle.std.specs.Option.{option_map};
 ghost use Rattle.uq_shell.specs.Answers.{form_of, request_of};
 ghost use Rattle.uq_shell.specs.Commands.{NoWord, commands, filled, form_named, request};
 
+use crate::cursor::Move;
 use crate::reply::Refusal;
 
 /// A command and its words.
@@ -16,6 +17,13 @@ pub enum Command<'a> {
     Begin,
     Commit,
     Rollback,
+    Seek { key: &'a [u8] },
+    Go(Move),
+    Key,
+    Data,
+    Drop,
+    Valid,
+    Reset,
     /// Words that are no command.
     Refused(Refusal),
 }
@@ -30,6 +38,13 @@ pub enum Verb {
     Begin,
     Commit,
     Rollback,
+    Seek,
+    Go(Move),
+    Key,
+    Data,
+    Drop,
+    Valid,
+    Reset,
 }
 
 /// What the words of a command ask for: its name, and the words that stand behind it.
@@ -69,6 +84,36 @@ fn verb_named(name: &[u8]) -> Option<Verb>
     }
     if is_same(name, b"rollback") {
         return Some(Verb::Rollback);
+    }
+    if is_same(name, b"seek") {
+        return Some(Verb::Seek);
+    }
+    if is_same(name, b"first") {
+        return Some(Verb::Go(Move::First));
+    }
+    if is_same(name, b"last") {
+        return Some(Verb::Go(Move::Last));
+    }
+    if is_same(name, b"next") {
+        return Some(Verb::Go(Move::Next));
+    }
+    if is_same(name, b"prev") {
+        return Some(Verb::Go(Move::Prev));
+    }
+    if is_same(name, b"key") {
+        return Some(Verb::Key);
+    }
+    if is_same(name, b"data") {
+        return Some(Verb::Data);
+    }
+    if is_same(name, b"drop") {
+        return Some(Verb::Drop);
+    }
+    if is_same(name, b"valid") {
+        return Some(Verb::Valid);
+    }
+    if is_same(name, b"reset") {
+        return Some(Verb::Reset);
     }
     None
 }
@@ -113,6 +158,18 @@ fn command_of<'a>(verb: Verb, words: &'a [Vec<u8>]) -> Command<'a>
         Verb::Begin => alone(Command::Begin, words),
         Verb::Commit => alone(Command::Commit, words),
         Verb::Rollback => alone(Command::Rollback, words),
+        Verb::Seek => match words {
+            [key] => Command::Seek {
+                key: key.as_slice(),
+            },
+            _ => Command::Refused(Refusal::BadCommand),
+        },
+        Verb::Go(to) => alone(Command::Go(to), words),
+        Verb::Key => alone(Command::Key, words),
+        Verb::Data => alone(Command::Data, words),
+        Verb::Drop => alone(Command::Drop, words),
+        Verb::Valid => alone(Command::Valid, words),
+        Verb::Reset => alone(Command::Reset, words),
     }
 }
 

@@ -3,6 +3,9 @@
 
 mod answering;
 mod command;
+mod cursor;
+#[cfg(test)]
+mod cursor_tests;
 mod ended;
 mod ending;
 mod listening;

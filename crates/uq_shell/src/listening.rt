@@ -1,5 +1,6 @@
 //! The commands of the input are obeyed, line by line.
 ghost use Rattle.std.specs.Prelude.{◌≡◌, ◌≤◌, false, Some, None};
+ghost use Rattle.uq_kv.specs.Cursor.{key_of};
 ghost use Rattle.uq_kv.specs.Kv.{closed_of, is_begun_of, limits_of};
 ghost use Rattle.uq_shell.specs.Carries.{Carries, DrawsBy, StopsBehind};
 ghost use Rattle.uq_shell.specs.Obeys.{at_start};
@@ -9,7 +10,7 @@ use crate::Status;
 use crate::obeying::hear;
 use crate::progress::{Progress, Stop};
 use std::alloc::Global;
-use uq_kv::Kv;
+use uq_kv::{Cursor, Kv};
 use uq_outside::{Disk, Sink, Source};
 use uq_words::{Lines, Step};
 
@@ -17,6 +18,7 @@ use uq_words::{Lines, Step};
 pub fn listen<D: Disk, I: Source, O: Sink>(
     alloc: Global,
     kv: &mut Kv<'_, D>,
+    cursor: &mut Cursor,
     input: &mut I,
     progress: &mut Progress,
     out: &mut O,
@@ -25,6 +27,7 @@ pub fn listen<D: Disk, I: Source, O: Sink>(
     requires open { closed_of D.Disk kv.old ≡ None }
     requires idle { is_begun_of D.Disk kv.old ≡ false }
     requires begins { progress.old ≡ at_start }
+    requires unset { key_of cursor.old ≡ None }
     requires most { 1 ≤ most }
     ensures carries { Carries D.Disk O.Sink (λ bytes. I.left input.old ≡ Some bytes)
         (λ entry bytes. run_from (limits_of D.Disk kv.old) (start entry) most bytes) progress.new kv.old kv.new out.old out.new result }
@@ -35,8 +38,8 @@ pub fn listen<D: Disk, I: Source, O: Sink>(
     let mut lines = Lines::new(alloc, most);
     'lines: loop {
         match lines.advance(input)? {
-            Step::Line => hear(alloc, lines.text(), kv, progress, out)?,
-            Step::Last => return hear(alloc, lines.text(), kv, progress, out),
+            Step::Line => hear(alloc, lines.text(), kv, cursor, progress, out)?,
+            Step::Last => return hear(alloc, lines.text(), kv, cursor, progress, out),
             Step::TooMuch => return Err(Stop::At(Status::TooMuchInput)),
         }
     }

@@ -1,6 +1,7 @@
 //! A command is obeyed: it is answered, and its reply is put out.
 ghost use Rattle.std.specs.Prelude.{◌≡◌, ◌<◌, ◌^◌, None};
 ghost use Rattle.std.specs.Option.{option_map};
+ghost use Rattle.uq_kv.specs.Cursor.{place_of};
 ghost use Rattle.uq_kv.specs.Kv.{closed_of, limits_of};
 ghost use Rattle.uq_shell.specs.Answers.{request_of};
 ghost use Rattle.uq_shell.specs.Obeys.{MovesOn, PutsNone, ReadsBy, RepliesBy};
@@ -15,7 +16,7 @@ use crate::output::put_line;
 use crate::progress::{Progress, Stop};
 use crate::reply::Refusal;
 use std::alloc::Global;
-use uq_kv::Kv;
+use uq_kv::{Cursor, Kv};
 use uq_outside::{Disk, Sink};
 use uq_words::{Line, read_line};
 
@@ -24,19 +25,20 @@ pub fn hear<D: Disk, O: Sink>(
     alloc: Global,
     text: Option<&[u8]>,
     kv: &mut Kv<'_, D>,
+    cursor: &mut Cursor,
     progress: &mut Progress,
     out: &mut O,
 ) -> Result<(), Stop>
     requires open { closed_of D.Disk kv.old ≡ None }
     requires few { progress.old.done < 2 ^ 66 }
     ensures { MovesOn D.Disk O.Sink (λ state. after (limits_of D.Disk kv.old) state (spec_asked_by (spoken_by (option_map (λ t. t.now) text.entry))))
-        progress.old progress.new kv.old kv.new out.old out.new result }
+        progress.old progress.new (place_of cursor.old) (place_of cursor.new) kv.old kv.new out.old out.new result }
 {
     let Ok(line) = read_line(alloc, text) else {
         return Err(Stop::At(Status::Memory));
     };
     match asked_by(&line) {
-        Some(command) => obey(alloc, command, kv, progress, out),
+        Some(command) => obey(alloc, command, kv, cursor, progress, out),
         None => Ok(()),
     }
 }
@@ -58,17 +60,18 @@ pub fn obey<D: Disk, O: Sink>(
     alloc: Global,
     command: Command<'_>,
     kv: &mut Kv<'_, D>,
+    cursor: &mut Cursor,
     progress: &mut Progress,
     out: &mut O,
 ) -> Result<(), Stop>
     requires open { closed_of D.Disk kv.old ≡ None }
     requires few { progress.old.done < 2 ^ 66 }
     ensures moves { MovesOn D.Disk O.Sink (λ state. obeyed_in (limits_of D.Disk kv.old) state (request_of command.entry))
-        progress.old progress.new kv.old kv.new out.old out.new result }
+        progress.old progress.new (place_of cursor.old) (place_of cursor.new) kv.old kv.new out.old out.new result }
     ensures reads { ReadsBy D.Disk O.Sink (request_of command.entry) kv.old kv.new }
     ensures silent { PutsNone D.Disk O.Sink result progress.old progress.new out.old out.new }
 {
-    match answer_command(alloc, command, kv) {
+    match answer_command(alloc, command, kv, cursor) {
         Ok(answer) => put_reply(alloc, &answer, progress, out),
         Err(status) => Err(Stop::At(status)),
     }

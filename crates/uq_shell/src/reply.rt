@@ -12,6 +12,9 @@ pub enum Reply {
     Ok,
     /// The data that were asked for, as a JSON string.
     Data(Vec<u8>),
+    /// What was asked is so.
+    Yes,
+    No,
     Refused(Refusal),
 }
 
@@ -43,6 +46,8 @@ impl Reply {
         match self {
             Reply::Ok => b"ok",
             Reply::Data(text) => text.as_slice(),
+            Reply::Yes => b"yes",
+            Reply::No => b"no",
             Reply::Refused(refusal) => refusal.text(),
         }
     }

@@ -3,6 +3,7 @@ ghost use Rattle.std.specs.Prelude.{◌≡◌, ◌≤◌, ◌^◌, false, IfOk, 
 ghost use Rattle.std.specs.Option.{ForSome};
 ghost use Rattle.uq_facts.specs.Causes.{AtErr, HasCauseAt};
 ghost use Rattle.uq_journal.specs.Calls.{KeepsRecovered};
+ghost use Rattle.uq_kv.specs.Cursor.{key_of};
 ghost use Rattle.uq_kv.specs.Holds.{HasShape, HoldsNone};
 ghost use Rattle.uq_kv.specs.Kv.{Tells, closed_of, disk_of, is_begun_of, limits_of};
 ghost use Rattle.uq_kv.specs.Opening.{Finds, IsLeftBy};
@@ -22,7 +23,7 @@ use crate::obeying::obey;
 use crate::progress::{Progress, Stop};
 use crate::{Ended, Status};
 use std::alloc::Global;
-use uq_kv::{Kv, OpenFault, Ready, recover};
+use uq_kv::{Cursor, Kv, OpenFault, Ready, recover};
 use uq_outside::{Disk, Sink, Source};
 use uq_words::{Order, read_options};
 
@@ -123,8 +124,18 @@ fn serve<D: Disk, I: Source, O: Sink>(
     ensures runs { RunsOver D.Disk I.Source O.Sink (λ entry. Tells D.Disk kv.old (opened entry)) (limits_of D.Disk kv.old) (map (λ word. word.items) words.now)
         most (disk_of D.Disk kv.old).now (disk_of D.Disk kv.new).now input.old input.new out.old out.new result }
 {
+    let mut cursor = Cursor::new();
     let mut progress = Progress::new();
-    match carry_out(alloc, words, kv, input, &mut progress, out, most) {
+    match carry_out(
+        alloc,
+        words,
+        kv,
+        &mut cursor,
+        input,
+        &mut progress,
+        out,
+        most,
+    ) {
         Ok(()) => settle(alloc, &progress, kv, out),
         Err(Stop::At(status)) => end(alloc, status, &progress, out),
         Err(Stop::Sink) => Ended {
@@ -139,6 +150,7 @@ fn carry_out<D: Disk, I: Source, O: Sink>(
     alloc: Global,
     words: &[Vec<u8>],
     kv: &mut Kv<'_, D>,
+    cursor: &mut Cursor,
     input: &mut I,
     progress: &mut Progress,
     out: &mut O,
@@ -147,13 +159,14 @@ fn carry_out<D: Disk, I: Source, O: Sink>(
     requires open { closed_of D.Disk kv.old ≡ None }
     requires idle { is_begun_of D.Disk kv.old ≡ false }
     requires begins { progress.old ≡ at_start }
+    requires unset { key_of cursor.old ≡ None }
     requires most { 1 ≤ most }
     ensures { CarriesOut D.Disk I.Source O.Sink (limits_of D.Disk kv.old) (map (λ word. word.items) words.now) most
         progress.new kv.old kv.new input.old input.new out.old out.new result }
 {
     if words.is_empty() {
-        listen(alloc, kv, input, progress, out, most)
+        listen(alloc, kv, cursor, input, progress, out, most)
     } else {
-        obey(alloc, read_command(words), kv, progress, out)
+        obey(alloc, read_command(words), kv, cursor, progress, out)
     }
 }

@@ -16,10 +16,10 @@ const MANY_CALLS: u64 = 64;
 
 const NOT_FOUND: &[u8] = b"not found\n";
 
-const FAILED: &[u8] = b"disk failed\n";
+pub const FAILED: &[u8] = b"disk failed\n";
 
 /// Runs words over a disk, into a sink, with no input.
-fn obey<D: Disk>(
+pub fn obey<D: Disk>(
     alloc: Global,
     words: &[&str],
     disk: &mut D,
@@ -37,13 +37,13 @@ const STORE: &[&str] = &["t.db", "store", "a", "1"];
 const FETCH: &[&str] = &["t.db", "fetch", "a"];
 
 /// A disk that holds `a`, as the first store leaves it.
-fn stored(alloc: Global) -> Result<MemDisk, Fail> {
+pub fn stored(alloc: Global) -> Result<MemDisk, Fail> {
     let mut disk = MemDisk::new(alloc, b"", b"", &[])?;
     obey(alloc, STORE, &mut disk, &mut MemSink::new(alloc, &[])?)?;
     Ok(disk)
 }
 
-fn ended(status: Status, done: u128) -> Ended {
+pub fn ended(status: Status, done: u128) -> Ended {
     Ended { status, done }
 }
 
@@ -100,7 +100,7 @@ fn a_stored_key_is_fetched_as_a_json_string(rt: HostRuntime) -> Result<(), Fail>
             ended(Status::Refused, 1),
         ),
         (
-            &["t.db", "drop"],
+            &["t.db", "drops"],
             b"unknown command\n",
             ended(Status::Refused, 1),
         ),
@@ -655,7 +655,7 @@ fn the_first_word_names_the_files(rt: HostRuntime) -> Result<(), Fail> {
 }
 
 /// Runs words over a disk and an input of which at most so many bytes are read, into a sink.
-fn follow<D: Disk, I: Source>(
+pub fn follow<D: Disk, I: Source>(
     alloc: Global,
     words: &[&str],
     disk: &mut D,
@@ -670,7 +670,7 @@ fn follow<D: Disk, I: Source>(
     Ok(run_within(alloc, list.as_slice(), disk, input, out, most))
 }
 
-const MOST: u64 = 1 << 40;
+pub const MOST: u64 = 1 << 40;
 
 #[test]
 fn the_lines_of_the_input_are_obeyed_in_order(rt: HostRuntime) -> Result<(), Fail> {

@@ -1,5 +1,6 @@
 use Rattle.std.proofs.Common.{◌≡◌, ◌≤◌, ◌+◌, ◌*◌, ℕ, List, Some, None}
 use Rattle.uq_model.specs.Session.{opened}
+use Rattle.uq_kv.specs.Cursor.{place_of}
 use Rattle.uq_kv.specs.Kv.{Tells, closed_of, disk_of, limits_of}
 use Rattle.uq_kv.specs.Stored.{Stored}
 use Rattle.uq_words.specs.Taking.{Going, left_of, most_of}
@@ -22,5 +23,5 @@ invariant-lines g l = record {
   going : Going g.I.Source l.initial.lines l.fn.input l.lines l.input;
   left : (bytes : List ℕ) → g.I.Source.left l.fn.input ≡ Some bytes → (rest : List ℕ) × (left_of g.I.Source l.lines l.input ≡ Some rest);
   told : (entry : Stored) (bytes : List ℕ) → Tells g.D.Disk l.fn.kv (opened entry) → g.I.Source.left l.fn.input ≡ Some bytes
-      → Passed g.D.Disk g.I.Source g.O.Sink (limits_of g.D.Disk l.fn.kv) entry l.most bytes l.progress (disk_of g.D.Disk l.fn.kv).now l.kv l.fn.out l.out l.lines l.input;
+      → Passed g.D.Disk g.I.Source g.O.Sink (limits_of g.D.Disk l.fn.kv) entry l.most bytes l.progress (place_of l.cursor) (disk_of g.D.Disk l.fn.kv).now l.kv l.fn.out l.out l.lines l.input;
 }

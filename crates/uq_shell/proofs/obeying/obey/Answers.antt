@@ -1,6 +1,7 @@
 use Rattle.std.proofs.Common.{refl, subst}
 use Rattle.std.specs.Prelude.{Result, Err}
 use Rattle.uq_outside.specs.Since.{Laws}
+use Rattle.uq_kv.specs.Cursor.{place_of}
 use Rattle.uq_shell.specs.Obeys.{RepliesBy}
 use Rattle.uq_shell.specs.declared.progress.Stop.{Stop}
 use Rattle.uq_shell.proofs.Answered.{moves_answered, moves_cut}
@@ -9,7 +10,7 @@ use Rattle.uq_shell.proofs.obeying.obey.Goals as goal
 pub returns-in-Ok-clause-moves : goal.returns-in-Ok-clause-moves
 returns-in-Ok-clause-moves g c =
     let laws : Laws g.D.Disk = record { only_now = g.met.D.Disk.only_now; counts_now = g.met.D.Disk.counts_now } in
-    moves_answered g.D.Disk g.O.Sink laws c.args.command c.args.progress.now c.args.kv.now c.answer_command.new.kv c.args.out.now
+    moves_answered g.D.Disk g.O.Sink laws c.args.command c.args.progress.now (place_of c.args.cursor.now) (place_of c.answer_command.new.cursor) c.args.kv.now c.answer_command.new.kv c.args.out.now
     c.in-Ok.answer c.in-Ok.ensures.does c.in-Ok.ensures.leaves c.in-Ok.ensures.open c.put_reply.new.progress c.put_reply.new.out c.put_reply.result c.put_reply.ensures
 
 pub returns-in-Ok-clause-reads : goal.returns-in-Ok-clause-reads
@@ -22,7 +23,7 @@ returns-in-Ok-clause-silent g c = λ status is.
 pub returns-in-Err-clause-moves : goal.returns-in-Err-clause-moves
 returns-in-Err-clause-moves g c =
     let laws : Laws g.D.Disk = record { only_now = g.met.D.Disk.only_now; counts_now = g.met.D.Disk.counts_now } in
-    moves_cut g.D.Disk g.O.Sink laws c.args.command c.args.progress.now c.args.kv.now c.answer_command.new.kv c.args.out.now c.in-Err.status c.in-Err.ensures.leaves
+    moves_cut g.D.Disk g.O.Sink laws c.args.command c.args.progress.now (place_of c.args.cursor.now) (place_of c.answer_command.new.cursor) c.args.kv.now c.answer_command.new.kv c.args.out.now c.in-Err.status c.in-Err.ensures.leaves
 
 pub returns-in-Err-clause-reads : goal.returns-in-Err-clause-reads
 returns-in-Err-clause-reads g c = record { still = c.in-Err.ensures.leaves.still; idle = c.in-Err.ensures.leaves.idle }

@@ -24,8 +24,8 @@ returns-in-Err-At-clause-runs g c =
     (served_at g.D.Disk g.I.Source g.O.Sink (limits_of g.D.Disk c.args.kv.now) (map (λ word. word.items) c.args.words.now) c.args.most c.carry_out.new.progress c.args.kv.now c.carry_out.new.kv
     c.args.input.now c.carry_out.new.input c.args.out.now c.carry_out.new.out c.in-Err-At.status c.end.new.out carries c.end.ensures.line c.end.ensures.later)
 
-pub returns-in-Err-Sink-clause-runs : goal.returns-in-Err-Sink-clause-runs
-returns-in-Err-Sink-clause-runs g c =
+pub returns-clause-runs : goal.returns-clause-runs
+returns-clause-runs g c =
     let is : c.in-Err-Sink.field-0 ≡ Sink = cc in
     let carries = subst (λ (s : Stop). CarriesOut g.D.Disk g.I.Source g.O.Sink (limits_of g.D.Disk c.args.kv.now) (map (λ word. word.items) c.args.words.now) c.args.most c.carry_out.new.progress c.args.kv.now
     c.carry_out.new.kv c.args.input.now c.carry_out.new.input c.args.out.now c.carry_out.new.out (Err s)) is c.in-Err-Sink.ensures in
