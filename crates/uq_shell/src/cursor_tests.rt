@@ -14,7 +14,8 @@ fn check(
     wanted: &[u8],
     wanted_end: Ended,
 ) -> Result<(), Fail> {
-    for piece in [1, 7, 1000] {
+    for more in [0usize, 6, 999] {
+        let piece = more.saturating_add(1);
         let mut disk = MemDisk::new(alloc, b"", b"", &[])?;
         let mut source = MemSource::new(alloc, input, piece, &[])?;
         let mut out = MemSink::new(alloc, &[])?;

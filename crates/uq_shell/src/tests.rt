@@ -1,4 +1,6 @@
 //! Runs over a disk and a sink in memory: replies, calls that fail, and stops at every moment.
+ghost use Rattle.std.specs.Prelude.{◌≤◌};
+
 use crate::{Ended, Status, run, run_within};
 use std::alloc::{AllocError, Global};
 use std::fs;
@@ -662,7 +664,9 @@ pub fn follow<D: Disk, I: Source>(
     input: &mut I,
     out: &mut MemSink,
     most: u64,
-) -> Result<Ended, AllocError> {
+) -> Result<Ended, AllocError>
+    requires { 1 ≤ most }
+{
     let mut list = Vec::new(alloc);
     for word in words {
         list.push(word.to_string(alloc)?)?;
@@ -816,7 +820,8 @@ fn the_lines_of_the_input_are_obeyed_in_order(rt: HostRuntime) -> Result<(), Fai
         ),
     ];
     for (words, input, wanted, wanted_end) in runs {
-        for piece in [1, 2, 7, 1000] {
+        for more in [0usize, 1, 6, 999] {
+            let piece = more.saturating_add(1);
             let mut disk = MemDisk::new(rt.alloc(), b"", b"", &[])?;
             let mut source = MemSource::new(rt.alloc(), input, piece, &[])?;
             let mut out = MemSink::new(rt.alloc(), &[])?;
