@@ -9,7 +9,7 @@ use Rattle.jx9_syntax.specs.declared.expression.Link.{Link}
 use Rattle.jx9_syntax.specs.declared.parts.Part.{Part}
 use Rattle.jx9_syntax.specs.declared.statement.Branch.{Branch}
 use Rattle.jx9_syntax.specs.declared.statement.Statement.{Statement}
-use Rattle.jx9_compile.specs.Emitted.{Loop, jump_where, operator_op, PartsCode, no_parts, text_part, variable_part, ExprCode, literal_code, mixed_code, variable_code, group_code, negate_code, not_code, step_code, or_code, and_code, join_code, chain_code, choice_code, assign_code, AllCode, no_values, value_code, DecidingCode, no_operands, operand_code, LinksCode, no_links, link_code, PrintsCode, no_prints, print_code, EffectCode, dropped_code, moved_code, EffectsCode, no_effects, effect_code, TestCode, no_test, test_code, StatementCode, block_code, print_statement, expr_statement, if_code, while_code, for_code, break_code, continue_code, return_code, return_null_code, SequenceCode, no_statements, statement_code, BranchesCode, no_branch, other_branch, branch_code, LoopCode, loop_code}
+use Rattle.jx9_compile.specs.Emitted.{Loop, jump_where, operator_op, PartsCode, no_parts, text_part, variable_part, ExprCode, literal_code, mixed_code, variable_code, group_code, negate_code, not_code, step_code, or_code, and_code, join_code, chain_code, choice_code, assign_code, change_code, AllCode, no_values, value_code, DecidingCode, no_operands, operand_code, LinksCode, no_links, link_code, PrintsCode, no_prints, print_code, EffectCode, dropped_code, moved_code, EffectsCode, no_effects, effect_code, TestCode, no_test, test_code, StatementCode, block_code, print_statement, expr_statement, if_code, while_code, for_code, break_code, continue_code, return_code, return_null_code, SequenceCode, no_statements, statement_code, BranchesCode, no_branch, other_branch, branch_code, LoopCode, loop_code}
 use Rattle.jx9_compile.specs.Slots.{KeepsSlots}
 use Rattle.jx9_compile.specs.declared.op.Op.{Op}
 use Rattle.jx9_compile.specs.declared.op.Op.TheVariants.{Add, Jump}
@@ -37,6 +37,7 @@ module _ {ops : List Op} {names : List Bytes} where
     expr_rises (chain_code f links is u d ds) = omega (arith, expr_rises d, links_rise ds)
     expr_rises (choice_code test f g is u dt h less df j over dg) = omega (arith, expr_rises dt, expr_rises df, expr_rises dg)
     expr_rises (assign_code name slot right is known u d c w) = omega (arith, expr_rises d)
+    expr_rises (change_code name slot how right is known u d h) = omega (arith, expr_rises d)
 
     pub values_rise : {at : ℕ} {es : List Expr} {to : ℕ} → AllCode ops names at es to → at ≤ to
     values_rise no_values = omega arith
@@ -209,6 +210,9 @@ module _ {ops ops' : List Op} {names names' : List Bytes} (most : ℕ) (keeps : 
         assign_code name slot right is (keeps.slot slot name known) (s.other at _ (omega arith) (omega (arith, expr_rises d)) u tt)
         (expr_carried d (part s (at + 1) to (omega arith) (omega arith)) (omega (arith, m)))
         (s.other to _ (omega (arith, expr_rises d)) (omega arith) c tt) (s.other (to + 1) _ (omega (arith, expr_rises d)) (omega arith) w tt)
+    expr_carried (change_code {at = at} {to = to} name slot how right is known u d h) s m =
+        change_code name slot how right is (keeps.slot slot name known) (s.other at _ (omega arith) (omega (arith, expr_rises d)) u tt)
+        (expr_carried d (part s (at + 1) to (omega arith) (omega arith)) (omega (arith, m))) (s.other to _ (omega (arith, expr_rises d)) (omega arith) h tt)
 
     pub values_carried : {at : ℕ} {es : List Expr} {to : ℕ} → AllCode ops names at es to → Carries ops ops' most at to → to ≤ most → AllCode ops' names' at es to
     values_carried no_values s m = no_values

@@ -1,12 +1,14 @@
 -- A program's code.
-use Rattle.std.proofs.Common.{◌≡◌, ℕ, zero, suc, ◌+◌, ◌<◌, List, [], ◌∷◌, ◌++◌, length, replicate, Option, Some, None, refl, sym, ap, ◌∙◌, subst, arith, inr}
-use Rattle.std.specs.Prelude.{true, false, take, slice_get, MatchOption, ◌⊎◌}
+use Rattle.std.proofs.Common.{◌≡◌, ℕ, zero, suc, ◌+◌, ◌-◌, ◌<◌, List, [], ◌∷◌, ◌++◌, length, replicate, Option, Some, None, refl, sym, ap, ◌∙◌, subst, arith, inr}
+use Rattle.std.specs.Prelude.{◌^◌, true, false, take, slice_get, MatchOption, ◌⊎◌}
 use Rattle.std.proofs.lemmas.Option.{none-some, same_Some, slice_get_within}
 use Rattle.uq_value.specs.declared.value.Value.{Value}
 use Rattle.jx9_syntax.specs.declared.program.Program.{Program}
 use Rattle.jx9_syntax.specs.declared.statement.Statement.{Statement}
-use Rattle.jx9_meaning.specs.Script.{source_of}
-use Rattle.jx9_compile.specs.Correct.{Behaves, KeepsRules, IsStart, IsUncompiled}
+use Rattle.jx9_meaning.specs.Laws.{EndsWell}
+use Rattle.jx9_meaning.specs.Script.{Source, Ended, source_of}
+use Rattle.jx9_meaning.specs.World.{World}
+use Rattle.jx9_compile.specs.Correct.{Behaves, KeepsRules, KeepsNumber, IsStart, IsUncompiled}
 use Rattle.jx9_compile.specs.Emitted.{SequenceCode}
 use Rattle.jx9_compile.specs.Emits.{IsOp, IsSequence, Emits}
 use Rattle.jx9_compile.specs.Machine.{ops_or_none, ops_of, first_slots}
@@ -22,6 +24,8 @@ use Rattle.jx9_compile.specs.declared.op.Op.{Op}
 use Rattle.jx9_compile.specs.declared.op.Op.TheVariants.{End}
 use Rattle.jx9_compile.specs.declared.problems.Problem.{Problem}
 use Rattle.jx9_compile.proofs.EmitLemmas.{sequence_stable}
+use Rattle.jx9_compile.proofs.Ends.{ends_once}
+use Rattle.jx9_compile.proofs.Frugal.{few_events}
 use Rattle.jx9_compile.proofs.Rules.{IsTame, tame_then, plain_op, sequence_tame}
 use Rattle.jx9_compile.proofs.Whole.{behaves}
 
@@ -88,6 +92,13 @@ module _ (p : Program) (clean : IsClean p) (code : Code) (f : Function) (these :
     calls = λ n at callee op h c. absurd (none-some callee (sym (calls n at op (sym (ap (λ ops. slice_get ops at) (ops_are n)) ∙ h)) ∙ c));
   }
 
+  pub code_keeps_number : ((q : Source) (w : World) → EndsWell q w) → KeepsNumber code
+  code_keeps_number ends w e few run =
+      let end = ends (source_of p) w in
+      let same = ends_once code w end.ended e (code_behaves w end.ended end.is_script) run in
+      let less = few_events (source_of p) f.ops s.names s.to (subst (λ ts. SequenceCode f.ops s.names None 0 ts s.to) all runs) w end.ended end.is_script in
+      subst (λ (x : Ended). length x.events < 2 ^ 64 - 1) same (omega (arith, less, few))
+
 none_found : (o : Option Problem) (P : Type 0) (Q : Problem → Type 0) → MatchOption o P Q → ((x : Problem) → o ≡ Some x → ⊥) → P
 none_found None P Q h other = h
 none_found (Some x) P Q h other = absurd (other x refl)
@@ -99,11 +110,11 @@ some_found (Some y) P Q x h is = subst Q (same_Some y x is) h
 -- the code of the one function, where no problem was found
 pub compiled : (p : Program) (o : Option Problem) (code : Code) (f : Function) (these : List Statement) (before items : List Function) → MatchOption o (IsClean p) (IsFirst p)
     → ((x : Problem) → o ≡ Some x → ⊥) → these ≡ p.statements → IsStart these f → before ≡ [] → items ≡ before ++ f ∷ [] → code ≡ record { functions = items }
-    → Behaves (source_of p) code × KeepsRules code × IsClean p
-compiled p o code f these before items h other all s empty more is =
+    → ((q : Source) (w : World) → EndsWell q w) → Behaves (source_of p) code × KeepsRules code × KeepsNumber code × IsClean p
+compiled p o code f these before items h other all s empty more is ends =
     let clean = none_found o (IsClean p) (IsFirst p) h other in
     let functions : code.functions ≡ f ∷ [] = ap (λ (c : Code). c.functions) is ∙ more ∙ ap (λ fs. fs ++ f ∷ []) empty in
-    (code_behaves p clean code f these all s functions, code_keeps_rules p clean code f these all s functions, clean)
+    (code_behaves p clean code f these all s functions, code_keeps_rules p clean code f these all s functions, code_keeps_number p clean code f these all s functions ends, clean)
 
 pub uncompiled : (p : Program) (o : Option Problem) (x : Problem) → MatchOption o (IsClean p) (IsFirst p) → o ≡ Some x → IsUncompiled p (Bad x.kind x.line)
 uncompiled p o x h is = (x.token, some_found o (IsClean p) (IsFirst p) x h is)

@@ -113,23 +113,24 @@ appended name (n ∷ ns) a d = (d.0, absent_more ns d.1, appended name ns a.2 d.
     absent_more [] h = (a.1, a.0, tt)
     absent_more (m ∷ ms) h = (h.0, h.1, absent_more ms h.2)
 
-pub slot_found : (a : Emitter) (name bs : Bytes) (ns : List Bytes) (r : Option ℕ) (i slot : ℕ) → ns ≡ a.names → bs ≡ name → r ≡ position (λ n. bytes_eq n bs) ns → r ≡ Some i → slot ≡ i
-    → Emits a a (IsSlot name slot)
-slot_found a name bs ns r i slot e f g h same = emits_nothing a (IsSlot name slot) (
-  subst (λ k. slice_get a.names k ≡ Some name) (sym same)
-      (found_at name a.names i (subst (λ x. position (λ n. bytes_eq n name) x ≡ Some i) e (subst (λ x. position (λ n. bytes_eq n x) ns ≡ Some i) f (sym g ∙ h)))),
+pub slot_found : (a : Emitter) (name bs : Bytes) (r : Option ℕ) (slot : ℕ) → bs ≡ name → r ≡ position (λ n. bytes_eq n bs) a.names → r ≡ Some slot → Emits a a (IsSlot name slot)
+slot_found a name bs r slot f g h = emits_nothing a (IsSlot name slot) (
+  found_at name a.names slot (subst (λ x. position (λ n. bytes_eq n x) a.names ≡ Some slot) f (sym g ∙ h)),
   refl,
 )
 
-pub slot_added : (a b : Emitter) (name bs : Bytes) (ns : List Bytes) (r : Option ℕ) (slot : ℕ) → ns ≡ a.names → bs ≡ name → r ≡ position (λ n. bytes_eq n bs) ns → r ≡ None
-    → b.names ≡ a.names ++ name ∷ [] → b.ops ≡ a.ops → slot ≡ length a.names → Emits a b (IsSlot name slot)
-slot_added a b name bs ns r slot e f g h more same is = record {
+pub slot_added : (a b : Emitter) (name bs : Bytes) (r : Option ℕ) (slot : ℕ) → bs ≡ name → r ≡ position (λ n. bytes_eq n bs) a.names → r ≡ None
+    → b.names ≡ a.names ++ bs ∷ [] → b.ops ≡ a.ops → slot ≡ length a.names → Emits a b (IsSlot name slot)
+slot_added a b name bs r slot f g h put same is = record {
   ops = record { same = λ j x y. ap (λ l. slice_get l j) same };
   longer = omega (arith, ap length same);
   names = record { slot = λ i n g. ap (λ l. slice_get l i) more ∙ slice_get-front a.names (name ∷ []) i (slice_get_within a.names i n g) ∙ g };
-  distinct = λ d. subst AreDistinct (sym more) (appended name a.names (absent_past name a.names (past a.names _ (subst (λ x. position (λ n. bytes_eq n name) x ≡ None) e (subst (λ x. position (λ n. bytes_eq n x) ns ≡ None) f (sym g ∙ h))))) d);
+  distinct = λ d. subst AreDistinct (sym more) (appended name a.names (absent_past name a.names (past a.names _ (subst (λ x. position (λ n. bytes_eq n x) a.names ≡ None) f (sym g ∙ h)))) d);
   added = (subst (λ k. slice_get b.names k ≡ Some name) (sym is) (ap (λ l. slice_get l (length a.names)) more ∙ slice_get-seam a.names name []), ap length same);
 }
+  where
+    more : b.names ≡ a.names ++ name ∷ []
+    more = put ∙ ap (λ x. a.names ++ x ∷ []) f
 
 -- ---- what is stable
 
@@ -275,9 +276,9 @@ module _ {A : Type 0} (Is : A → Stands) where
       let bd = emits_then b c d _ _ (stable x) r h.put in
       let ad = emits_then a b d _ _ (held_stable stable (take i all) ps) q bd in
       let front : Held Is d.ops d.names (length a.ops) (take i all) ps (length b.ops) =
-          held_stable stable (take i all) ps b.ops d.ops b.names d.names (length a.ops) (length b.ops) q.added (narrow bd.ops (length a.ops) (length b.ops) (omega arith) (omega arith)) bd.names in
+      held_stable stable (take i all) ps b.ops d.ops b.names d.names (length a.ops) (length b.ops) q.added (narrow bd.ops (length a.ops) (length b.ops) (omega arith) (omega arith)) bd.names in
       let last : Is x d.ops d.names (length b.ops) (length c.ops) =
-          stable x c.ops d.ops c.names d.names (length b.ops) (length c.ops) r.added (narrow h.put.ops (length b.ops) (length c.ops) (omega arith) (omega arith)) h.put.names in
+      stable x c.ops d.ops c.names d.names (length b.ops) (length c.ops) r.added (narrow h.put.ops (length b.ops) (length c.ops) (omega arith) (omega arith)) h.put.names in
       one_more (λ xs. Emits a d (AreHeld Is xs ps')) all i x within is
       (subst (λ qs. Emits a d (AreHeld Is (take i all ++ x ∷ []) qs)) (sym more)
       (record {

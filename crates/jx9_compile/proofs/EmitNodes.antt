@@ -7,8 +7,9 @@ use Rattle.uq_value.specs.declared.value.Value.{Value}
 use Rattle.jx9_syntax.specs.Trees.{ExprLayer, node_of}
 use Rattle.jx9_syntax.specs.declared.expression.Access.{Access}
 use Rattle.jx9_syntax.specs.declared.expression.Access.TheOpen.{Node-F}
-use Rattle.jx9_syntax.specs.declared.expression.Access.TheViews.{out-roll-Node, rolls-Literal, rolls-Mixed, rolls-Group, rolls-Negate, rolls-Not, rolls-Step, rolls-Or, rolls-And, rolls-Join, rolls-Chain, rolls-Cond, rolls-Var, rolls-Assign}
+use Rattle.jx9_syntax.specs.declared.expression.Access.TheViews.{out-roll-Node, rolls-Literal, rolls-Mixed, rolls-Group, rolls-Negate, rolls-Not, rolls-Step, rolls-Or, rolls-And, rolls-Join, rolls-Chain, rolls-Cond, rolls-Var, rolls-Assign, rolls-Change}
 use Rattle.jx9_syntax.specs.declared.expression.Binary.TheVariants as binary
+use Rattle.jx9_syntax.specs.declared.expression.Change.{Change as How}
 use Rattle.jx9_syntax.specs.declared.expression.Expr.{Expr}
 use Rattle.jx9_syntax.specs.declared.expression.Link.{Link}
 use Rattle.jx9_syntax.specs.declared.expression.Literal.{Literal}
@@ -19,14 +20,14 @@ use Rattle.jx9_syntax.specs.declared.expression.Step.{Step}
 use Rattle.jx9_syntax.specs.declared.parts.Part.{Part}
 use Rattle.jx9_syntax.specs.declared.parts.Part.TheVariants as part
 use Rattle.jx9_meaning.specs.Expression.{literal_value}
-use Rattle.jx9_compile.specs.Emits.{IsOp, IsSlot, IsMove, AreParts, IsExpr, IsBehind, AreValues, AreLinks, IsEffect, AreEffects, AreHeld, Held, nothing_held, piece_held, Emits, IsHeld, IsSet, IsElse, IsLanded, IsDecided}
-use Rattle.jx9_compile.specs.Emitted.{operator_op, jump_where, variable_place, PartsCode, no_parts, text_part, variable_part, ExprCode, literal_code, mixed_code, variable_code, group_code, negate_code, not_code, step_code, or_code, and_code, join_code, chain_code, choice_code, assign_code, AllCode, no_values, value_code, DecidingCode, no_operands, operand_code, LinksCode, no_links, link_code, EffectCode, dropped_code, moved_code, EffectsCode, no_effects, effect_code}
+use Rattle.jx9_compile.specs.Emits.{IsOp, IsSlot, IsOnSlot, IsMove, IsChange, AreParts, IsExpr, IsBehind, AreValues, AreLinks, IsEffect, AreEffects, AreHeld, Held, nothing_held, piece_held, Emits, IsHeld, IsSet, IsElse, IsLanded, IsDecided}
+use Rattle.jx9_compile.specs.Emitted.{operator_op, jump_where, variable_place, PartsCode, no_parts, text_part, variable_part, ExprCode, literal_code, mixed_code, variable_code, group_code, negate_code, not_code, step_code, or_code, and_code, join_code, chain_code, choice_code, assign_code, change_code, AllCode, no_values, value_code, DecidingCode, no_operands, operand_code, LinksCode, no_links, link_code, EffectCode, dropped_code, moved_code, EffectsCode, no_effects, effect_code}
 use Rattle.jx9_compile.specs.Holes.{hole, Misses, AreSet}
 use Rattle.jx9_compile.specs.Problems.{is_built, operands_of, IsCleanExpr, AreCleanExprs}
 use Rattle.jx9_compile.specs.Slots.{KeepsSlots, AreDistinct}
 use Rattle.jx9_compile.specs.declared.emitting.Emitter.{Emitter}
 use Rattle.jx9_compile.specs.declared.op.Op.{Op}
-use Rattle.jx9_compile.specs.declared.op.Op.TheVariants.{Unit as OneUnit, Push, Pop, Copy, Load, Assign, Count, Operate, Not, Join, Jump, JumpUnless}
+use Rattle.jx9_compile.specs.declared.op.Op.TheVariants.{Unit as OneUnit, Push, Pop, Copy, Load, Assign, Count, Change, Operate, Not, Join, Jump, JumpUnless}
 use Rattle.jx9_compile.proofs.Clean.{clean_head, clean_tail, clean_front, clean_last, clean_within, clean_built, no_steps, operands_append}
 use Rattle.jx9_compile.proofs.Places.{slice_get-set_other, slice_get-set_same, missed_above, found_or_missed}
 use Rattle.jx9_compile.proofs.EmitLemmas.{Then, Ahead, ahead_stable, filled_in, emits_then, emits_as, emits_nothing, one_more, op_stable, slot_stable, parts_stable, expr_stable, values_stable, links_stable, effects_stable, held_rises, held_between, held_misses, same_slots}
@@ -98,11 +99,18 @@ module _ (line : ℕ) where
       (u ∙ ap (λ n. Some (OneUnit n)) (sym same)) (moved_op ops _ _ _ h.2.0 here ∙ ap (λ n. Some (Count slot st n)) (sym same))) (h.2.1 ∙ ap (λ n. n + 1) here))
       (emits_then a b c _ _ (slot_stable place.name slot) p q)
 
-pub move_emitted : (a b c : Emitter) (line : ℕ) (name : Bytes) (slot : ℕ) → Emits a b (IsSlot name slot) → Emits b c (IsOp (Assign slot line)) → Emits a c (IsMove line name)
-move_emitted a b c line name slot p q =
-    emits_as a c (Then (IsSlot name slot) (IsOp (Assign slot line))) (IsMove line name)
+on_slot : (a b c : Emitter) (op : ℕ → Op) (name : Bytes) (slot : ℕ) → Emits a b (IsSlot name slot) → Emits b c (IsOp (op slot)) → Emits a c (IsOnSlot op name)
+on_slot a b c op name slot p q =
+    emits_as a c (Then (IsSlot name slot) (IsOp (op slot))) (IsOnSlot op name)
     (λ ops names at to h. (slot, h.1.0, moved_op ops _ _ _ h.2.0 h.1.1, h.2.1 ∙ ap (λ n. n + 1) h.1.1))
     (emits_then a b c _ _ (slot_stable name slot) p q)
+
+pub move_emitted : (a b c : Emitter) (line : ℕ) (name : Bytes) (slot : ℕ) → Emits a b (IsSlot name slot) → Emits b c (IsOp (Assign slot line)) → Emits a c (IsMove line name)
+move_emitted a b c line name slot p q = on_slot a b c (λ n. Assign n line) name slot p q
+
+pub changed_by_top : (a b c : Emitter) (how : How) (line : ℕ) (name : Bytes) (slot : ℕ) → Emits a b (IsSlot name slot) → Emits b c (IsOp (Change slot how line))
+    → Emits a c (IsChange how line name)
+changed_by_top a b c how line name slot p q = on_slot a b c (λ n. Change n how line) name slot p q
 
 -- ---- operands that decide
 
@@ -353,6 +361,19 @@ module _ (e : Expr) where
       move.1 h.1.0 (moved_expr (h.2.1 (clean_head right [] (clean_within e (Node-F.Assign place right) layer clean))) h.1.1) h.2.2.1.0 (moved_op ops _ _ _ move.2 h.2.2.1.1))
       (move.3 ∙ ap (λ n. n + 1) h.2.2.1.1))
       (emits_then a b f _ _ (op_stable _) p (emits_then b c f _ _ (expr_stable right) (renamed {a = b} {b = c} same q) (emits_then c d f _ _ (op_stable _) r s)))
+
+  pub change_emitted : (a b c d : Emitter) (how : How) (right got : Expr) (place : Place) → e.node ≡ node.Change place how right → got ≡ right
+      → Emits a b (IsOp (OneUnit e.line)) → Emits b c (IsExpr got) → Emits c d (IsChange how e.line place.name) → Emits a d (IsExpr e)
+  change_emitted a b c d how right got place is same p q r =
+      emits_as a d (Then (IsOp (OneUnit e.line)) (Then (IsExpr right) (IsChange how e.line place.name))) (IsExpr e)
+      (λ ops names at to h clean.
+      let layer = open_node (Node-F.Change place how right) is (rolls-Change place how right) in
+      let none : place.steps ≡ [] = no_steps place.steps (clean_built e (Node-F.Change place how right) layer clean) in
+      let change = h.2.2 in
+      ends_at (change_code place.name change.0 how right
+      (open_node _ (is ∙ ap (λ x. node.Change (record { name = place.name; steps = x }) how right) none) (rolls-Change (variable_place place.name) how right))
+      change.1 h.1.0 (moved_expr (h.2.1 (clean_head right [] (clean_within e (Node-F.Change place how right) layer clean))) h.1.1) change.2) change.3)
+      (emits_then a b d _ _ (op_stable _) p (emits_then b c d _ _ (expr_stable right) (renamed {a = b} {b = c} same q) r))
 
   pub moved_emitted : (a b c d : Emitter) (right got : Expr) (place : Place) → e.node ≡ node.Assign place right → got ≡ right
       → Emits a b (IsOp (OneUnit e.line)) → Emits b c (IsExpr got) → Emits c d (IsMove e.line place.name) → Emits a d (IsEffect e)

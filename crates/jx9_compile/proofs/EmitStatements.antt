@@ -18,7 +18,7 @@ use Rattle.jx9_compile.specs.Problems.{exprs_of, statements_of, tests_of, bodies
 use Rattle.jx9_compile.specs.Slots.{KeepsSlots, AreDistinct}
 use Rattle.jx9_compile.specs.declared.emitting.Emitter.{Emitter}
 use Rattle.jx9_compile.specs.declared.op.Op.{Op}
-use Rattle.jx9_compile.specs.declared.op.Op.TheVariants.{Unit as OneUnit, Push, Pop, Copy, Load, Store, Assign, Count, Add, Operate, Not, Join, Jump, JumpUnless, JumpIf, Call, Print, End}
+use Rattle.jx9_compile.specs.declared.op.Op.TheVariants.{Unit as OneUnit, Push, Pop, Copy, Load, Store, Assign, Count, Change, Add, Operate, Not, Join, Jump, JumpUnless, JumpIf, Call, Print, End}
 use Rattle.jx9_compile.proofs.Carried.{Carries, Ways, IsNoJump, test_carried, statement_carried, branches_carried, test_rises, statement_rises}
 use Rattle.jx9_compile.proofs.Clean.{clean_head, clean_tail, clean_front, clean_rest, clean_last, clean_statements_head, clean_statements_tail, clean_statements_front, clean_statements_rest, clean_statements_last, clean_exprs_in, clean_statements_in, clean_statement_built, clean_looped}
 use Rattle.jx9_compile.proofs.Places.{missed_above}
@@ -75,6 +75,7 @@ known_no_jump (Load slot) h = tt
 known_no_jump (Store slot) h = tt
 known_no_jump (Assign slot line) h = tt
 known_no_jump (Count slot step line) h = tt
+known_no_jump (Change slot how line) h = tt
 known_no_jump (Add line) h = tt
 known_no_jump (Operate operator line) h = tt
 known_no_jump Not h = tt

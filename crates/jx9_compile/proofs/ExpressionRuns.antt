@@ -14,31 +14,33 @@ use Rattle.uq_value.specs.declared.value.Value.{Value}
 use Rattle.jx9_syntax.specs.Trees.{ExprLayer, node_of}
 use Rattle.jx9_syntax.specs.declared.expression.Binary.{Binary}
 use Rattle.jx9_syntax.specs.declared.expression.Binary.TheVariants as binary
+use Rattle.jx9_syntax.specs.declared.expression.Change.{Change as How}
 use Rattle.jx9_syntax.specs.declared.expression.Expr.{Expr}
 use Rattle.jx9_syntax.specs.declared.expression.Link.{Link}
 use Rattle.jx9_syntax.specs.declared.expression.Step.{Step}
 use Rattle.jx9_syntax.specs.declared.expression.Step.TheVariants.{IncrementFirst, DecrementFirst, IncrementAfter, DecrementAfter}
 use Rattle.jx9_syntax.specs.declared.parts.Part.{Part}
 use Rattle.jx9_meaning.specs.Expression as meaning
-use Rattle.jx9_meaning.specs.Expression.{literal_value, joined, stepped, shown, part_value, deciding, choice, assign, link, value_of, evaluated, write_place, place_steps}
-use Rattle.jx9_meaning.specs.Meaning.{Fault, Meaning, Goes, Ends, after, ◌>>=◌, ◌>>◌, pure, some_or, ok_or, put_or, fault_of, take, write, fits, sized, each, through}
+use Rattle.jx9_meaning.specs.Expression.{literal_value, joined, stepped, shown, part_value, deciding, choice, assign, link, value_of, evaluated, write_place, place_steps, operation, change_units}
+use Rattle.jx9_meaning.specs.Meaning.{Fault, Spent, Meaning, Outcome, Goes, Ends, Unfinished, after, ◌>>=◌, ◌>>◌, pure, some_or, ok_or, put_or, fault_of, spend, take, write, fits, sized, each, through}
 use Rattle.jx9_meaning.specs.Operators.{Checked, operate, checked, in_range}
 use Rattle.jx9_meaning.specs.Script.{Source, call, expr_within, run_within}
 use Rattle.jx9_meaning.specs.Statement.{all}
-use Rattle.jx9_meaning.specs.World.{State, variable, with_variable}
+use Rattle.jx9_meaning.specs.World.{State, variable, with_variable, changed}
 use Rattle.jx9_meaning.specs.declared.fault.FaultKind.TheVariants.{NotNumber, Overflow}
-use Rattle.jx9_compile.specs.Emitted.{jump_where, operator_op, variable_place, PartsCode, no_parts, text_part, variable_part, ExprCode, literal_code, mixed_code, variable_code, group_code, negate_code, not_code, step_code, or_code, and_code, join_code, chain_code, choice_code, assign_code, AllCode, no_values, value_code, DecidingCode, no_operands, operand_code, LinksCode, no_links, link_code, EffectCode, dropped_code, moved_code, EffectsCode, no_effects, effect_code}
+use Rattle.jx9_compile.specs.Emitted.{jump_where, operator_op, variable_place, PartsCode, no_parts, text_part, variable_part, ExprCode, literal_code, mixed_code, variable_code, group_code, negate_code, not_code, step_code, or_code, and_code, join_code, chain_code, choice_code, assign_code, change_code, AllCode, no_values, value_code, DecidingCode, no_operands, operand_code, LinksCode, no_links, link_code, EffectCode, dropped_code, moved_code, EffectsCode, no_effects, effect_code}
 use Rattle.jx9_compile.specs.Machine.{Frame, Machine, ops_of, slot_value}
-use Rattle.jx9_compile.specs.Run.{Result', Next, gives, is_unit, operated, counting, act, run}
+use Rattle.jx9_compile.specs.Run.{Result', Next, gives, is_unit, operated, counting, changing, act, run}
 use Rattle.jx9_compile.specs.Slots.{AreDistinct}
 use Rattle.jx9_compile.specs.declared.code.Code.{Code}
 use Rattle.jx9_compile.specs.declared.op.Op.{Op}
-use Rattle.jx9_compile.specs.declared.op.Op.TheVariants.{Push, Pop, Copy, Load, Assign, Count, Not, Join, Jump, JumpUnless}
+use Rattle.jx9_compile.specs.declared.op.Op.TheVariants.{Push, Pop, Copy, Load, Assign, Count, Change, Not, Join, Jump, JumpUnless}
 use Rattle.jx9_compile.proofs.Above.{arguments_are, under, each_length}
 use Rattle.jx9_compile.proofs.Jumps.{jump_ahead, jump_where_runs, jump_unless_runs}
 use Rattle.jx9_compile.proofs.Leads.{above, Leads, bare, leads_at_once, leads_step, leads_end, leads_then, leads_on, leads_then_where, machine, step, unit_runs, checked_runs}
-use Rattle.jx9_compile.proofs.Natural.{natural_runs, natural_sized}
+use Rattle.jx9_compile.proofs.Natural.{SameBare, natural_runs, natural_sized, natural_operation}
 use Rattle.jx9_compile.proofs.Slots as slots
+use Rattle.jx9_compile.proofs.Steps.{taken}
 use Rattle.jx9_compile.proofs.Slots.{slots_written}
 
 operator_acts : (code : Code) (next : Next) (m : Machine) (operator : Binary) (line : ℕ) → act code next (Some (operator_op operator line)) m ≡ operated next m operator line
@@ -159,6 +161,51 @@ module _ (p : Source) (code : Code) (function : ℕ) (names : List Bytes) (disti
           (λ k. h k ∙ ap (λ vs. run code k (record { frame = record { function = function; place = at + 1; stack = stack; slots = vs }; callers = callers; outside = bare s })) (slots_written names s.own slot name v distinct known))
           (leads_at_once code (λ k. go k (with_variable name v s)))
 
+  -- what `op=` writes, which the variable takes and the stack has then
+  change_written : (at line slot : ℕ) (how : How) (name : Bytes) → slice_get names slot ≡ Some name → (m : Machine) (stack : List Value) (callers : List Frame) (s : State)
+      → (r r' : Outcome Value) → SameBare s r r'
+      → ((k : ℕ) → run code (suc k) m ≡ gives (after r' (λ new. fits line new >> (take (change_units how new) >> pure new)))
+      (λ new t. run code k (record { frame = record { function = function; place = at + 1; stack = new ∷ stack; slots = slice_set (map s.own names) slot new }; callers = callers; outside = t })))
+      → Leads code m (after r (λ new. write_place line (variable_place name) [] new >> (take (change_units how new) >> pure new))) (With (at + 1) stack callers)
+  unfolding write_place with_variable variable fits take
+  change_written at line slot how name known m stack callers s (Goes new t) r' e g =
+      by_limits (nat_lt most_depth (depth new)) (nat_lt most_size (size new))
+      (λ k. g k ∙ ap (λ x. gives (after x (λ v. fits line v >> (take (change_units how v) >> pure v))) (λ v u. run code k (in_slots v u))) e.0)
+    where
+      units : ℕ
+      units = change_units how new
+
+      in_slots : Value → State → Machine
+      in_slots v u = record { frame = record { function = function; place = at + 1; stack = v ∷ stack; slots = slice_set (map s.own names) slot v }; callers = callers; outside = u }
+
+      -- whether fewer units are left than it takes
+      spent_or : State → Bool → Outcome Value
+      spent_or u b = after (taken units u b) (λ _. pure new)
+
+      limits : Bool → Bool → Meaning Value
+      limits b c = put_or line (if b then Err TooDeep else (if c then Err TooLarge else Ok new))
+
+      by_units : (b : Bool) → ((k : ℕ) → run code (suc k) m ≡ gives (spent_or (bare t) b) (λ v u. run code k (in_slots v u)))
+          → Leads code m (spent_or (with_variable name new t) b) (With (at + 1) stack callers)
+      by_units true h = leads_end code (Ends Spent (with_variable name new t)) (λ k. h 0)
+      by_units false h =
+          leads_step code (Goes new (spend units (with_variable name new t)))
+          (λ k. h k ∙ ap (λ vs. run code k (record { frame = record { function = function; place = at + 1; stack = new ∷ stack; slots = vs }; callers = callers; outside = spend units (bare t) }))
+          (slots_written names s.own slot name new distinct known ∙ ap (λ own. map (changed own name new) names) (sym e.1)))
+          (leads_at_once code (λ k. refl))
+
+      by_limits : (b c : Bool)
+          → ((k : ℕ) → run code (suc k) m ≡ gives (after (limits b c (bare t)) (λ v u. spent_or u (nat_lt u.world.units units))) (λ v u. run code k (in_slots v u)))
+          → Leads code m (after (after (limits b c t) (λ root. write name root >> pure new)) (λ v u. spent_or u (nat_lt u.world.units units))) (With (at + 1) stack callers)
+      by_limits true c h = leads_end code (Ends (Fault (fault_of TooDeep) line) t) (λ k. h 0)
+      by_limits false true h = leads_end code (Ends (Fault (fault_of TooLarge) line) t) (λ k. h 0)
+      by_limits false false h = by_units (nat_lt t.world.units units) h
+  change_written at line slot how name known m stack callers s (Ends x t) r' e g =
+      leads_end code (Ends x t)
+      (λ k. g 0 ∙ ap (λ y. gives (after y (λ v. fits line v >> (take (change_units how v) >> pure v)))
+      (λ v u. run code 0 (record { frame = record { function = function; place = at + 1; stack = v ∷ stack; slots = slice_set (map s.own names) slot v }; callers = callers; outside = u }))) e)
+  change_written at line slot how name known m stack callers s Unfinished r' e g = record { by = λ k. (0, tt) }
+
   -- ---- lists
 
   parts_run : (at to : ℕ) (ps : List Part) → PartsCode ops names at ps to → (stack : List Value) (callers : List Frame) (s : State)
@@ -253,6 +300,21 @@ module _ (p : Source) (code : Code) (function : ℕ) (names : List Bytes) (disti
     assign_runs at mid line name right d stack callers s go =
         leads_then code (expr right s) (λ v. write_place line (variable_place name) [] v) (runs at mid right d stack callers s) (λ v t. (go v t).by)
 
+    change_runs : (at mid line slot : ℕ) (how : How) (name : Bytes) (right : Expr) → slice_get names slot ≡ Some name → ExprCode ops names at right mid
+        → slice_get ops mid ≡ Some (Change slot how line) → (stack : List Value) (callers : List Frame) (s : State)
+        → Leads code (machine code function names at stack callers s) (meaning.change expr calls line (variable_place name) how right s) (With (mid + 1) stack callers)
+    unfolding meaning.change place_steps variable
+    change_runs at mid line slot how name right known d h stack callers s =
+        leads_then code (expr right s)
+        (λ b t. after (operation line (t.own name) how b t) (λ new. write_place line (variable_place name) [] new >> (take (change_units how new) >> pure new)))
+        (runs at mid right d stack callers s)
+        (λ b t. (change_written mid line slot how name known (machine code function names mid (b ∷ stack) callers t) stack callers t
+        (operation line (t.own name) how b t) (operation line (t.own name) how b (bare t)) ((natural_operation line (t.own name) how b).at t)
+        (λ k. step code function names mid (Change slot how line) (b ∷ stack) callers t h k
+        ∙ ap (λ v. gives (changing line how v b (bare t))
+        (λ new u. run code k (record { frame = record { function = function; place = mid + 1; stack = new ∷ stack; slots = slice_set (map t.own names) slot new }; callers = callers; outside = u })))
+        (slots.slot_value names t.own slot name known))).by)
+
     step_runs : (at line slot : ℕ) (st : Step) (name : Bytes) → slice_get names slot ≡ Some name → slice_get ops at ≡ Some (Count slot st line)
         → (stack : List Value) (callers : List Frame) (s : State)
         → Leads code (machine code function names at stack callers s) (meaning.step expr calls line st (variable_place name) s) (With (at + 1) stack callers)
@@ -337,6 +399,8 @@ module _ (p : Source) (code : Code) (function : ℕ) (names : List Bytes) (disti
         assign_runs (at + 1) mid e.line name right d stack callers t (λ v t'.
         leads_step code (write_place e.line (variable_place name) [] v t') (λ k. step code function names mid Copy (v ∷ stack) callers t' c k)
         (write_runs (mid + 1) e.line slot name known w v (v ∷ stack) callers t' (λ k t''. refl)))))
+    node_runs at to e (change_code {to = mid} name slot how right is known u d h) stack callers s =
+        opened n e _ s is (unit_runs code function names at e.line _ stack callers s u (λ t. change_runs (at + 1) mid e.line slot how name right known d h stack callers t))
 
     -- an expression whose value is not needed, of one level more
     pub effect_runs : ExprsRun (suc n) → EffectsRun (suc n)
@@ -373,6 +437,7 @@ module _ (p : Source) (code : Code) (function : ℕ) (names : List Bytes) (disti
   expr_begins (chain_code f links is u d ds) = ap is_unit u
   expr_begins (choice_code test f g is u dt h less df j over dg) = ap is_unit u
   expr_begins (assign_code name slot right is known u d c w) = ap is_unit u
+  expr_begins (change_code name slot how right is known u d h) = ap is_unit u
 
   pub effect_begins : {at to : ℕ} {e : Expr} → EffectCode ops names at e to → is_unit (slice_get ops at) ≡ true
   effect_begins (dropped_code e d h) = expr_begins d

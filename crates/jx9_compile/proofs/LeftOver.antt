@@ -5,7 +5,8 @@ use Rattle.uq_value.specs.Data.{Bytes}
 use Rattle.jx9_syntax.specs.Trees.{ExprLayer, StatementLayer}
 use Rattle.jx9_syntax.specs.declared.expression.Access.{Access}
 use Rattle.jx9_syntax.specs.declared.expression.Access.TheOpen.{Node-F}
-use Rattle.jx9_syntax.specs.declared.expression.Access.TheViews.{roll-out-Node, rolls-Literal, rolls-Mixed, rolls-Group, rolls-Negate, rolls-Not, rolls-Step, rolls-Or, rolls-And, rolls-Join, rolls-Chain, rolls-Cond, rolls-Var, rolls-Assign}
+use Rattle.jx9_syntax.specs.declared.expression.Access.TheViews.{roll-out-Node, rolls-Literal, rolls-Mixed, rolls-Group, rolls-Negate, rolls-Not, rolls-Step, rolls-Or, rolls-And, rolls-Join, rolls-Chain, rolls-Cond, rolls-Var, rolls-Assign, rolls-Change}
+use Rattle.jx9_syntax.specs.declared.expression.Change.{Change as How}
 use Rattle.jx9_syntax.specs.declared.expression.Expr.{Expr}
 use Rattle.jx9_syntax.specs.declared.expression.Link.{Link}
 use Rattle.jx9_syntax.specs.declared.expression.Literal.{Literal}
@@ -34,7 +35,8 @@ module _ (n : Node) (not_literal : (l : Literal) → n ≡ node.Literal l → �
     (not_negate : (e : Expr) → n ≡ node.Negate e → ⊥) (not_not : (e : Expr) → n ≡ node.Not e → ⊥) (not_step : (s : Step) (place : Place) → n ≡ node.Step s place → ⊥)
     (not_or : (e : Expr) (es : List Expr) → n ≡ node.Or e es → ⊥) (not_and : (e : Expr) (es : List Expr) → n ≡ node.And e es → ⊥) (not_join : (es : List Expr) → n ≡ node.Join es → ⊥)
     (not_chain : (e : Expr) (links : List Link) → n ≡ node.Chain e links → ⊥) (not_cond : (e f g : Expr) → n ≡ node.Cond e f g → ⊥)
-    (not_assign : (place : Place) (e : Expr) → n ≡ node.Assign place e → ⊥) where
+    (not_assign : (place : Place) (e : Expr) → n ≡ node.Assign place e → ⊥)
+    (not_change : (place : Place) (how : How) (e : Expr) → n ≡ node.Change place how e → ⊥) where
   by_layer : (layer : ExprLayer) → out-Node n ≡ layer → (is_built layer ≡ false) × (exprs_within layer ≡ [])
   by_layer (Node-F.Literal l) h = absurd (not_literal l (node_is n _ h (rolls-Literal l)))
   by_layer (Node-F.Mixed ps) h = absurd (not_mixed ps (node_is n _ h (rolls-Mixed ps)))
@@ -56,7 +58,7 @@ module _ (n : Node) (not_literal : (l : Literal) → n ≡ node.Literal l → �
   by_layer (Node-F.Cond e f g) h = absurd (not_cond e f g (node_is n _ h (rolls-Cond e f g)))
   by_layer (Node-F.Assign place e) h = absurd (not_assign place e (node_is n _ h (rolls-Assign place e)))
   by_layer (Node-F.Append place e) h = (refl, refl)
-  by_layer (Node-F.Change place how e) h = (refl, refl)
+  by_layer (Node-F.Change place how e) h = absurd (not_change place how e (node_is n _ h (rolls-Change place how e)))
 
   pub left_over : (is_built (out-Node n) ≡ false) × (exprs_within (out-Node n) ≡ [])
   left_over = by_layer (out-Node n) refl

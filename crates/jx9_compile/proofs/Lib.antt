@@ -8,11 +8,14 @@ pub mod Badness
 pub mod Leads
 pub mod Natural
 pub mod Slots
+pub mod NameLemmas
 pub mod Jumps
 pub mod Above
 pub mod ExpressionRuns
 pub mod StatementRuns
 pub mod Whole
+pub mod Quiet
+pub mod Frugal
 pub mod Carried
 pub mod Places
 pub mod Clean

@@ -1,11 +1,17 @@
 -- Steps that look at no variable do the same where the variables live in slots.
 use Rattle.std.proofs.Common.{◌≡◌, ℕ, suc, ◌+◌, List, ◌∷◌, refl, sym, ap, ◌∙◌, subst}
-use Rattle.std.specs.Prelude.{Bool, true, false, if◌then◌else◌, map, nat_lt, Ok, Err}
+use Rattle.std.specs.Prelude.{Bool, true, false, if◌then◌else◌, map, nat_lt, ◌++◌, Ok, Err, Result}
 use Rattle.uq_value.specs.Data.{Bytes}
 use Rattle.uq_value.specs.Put.{Put, limited}
 use Rattle.uq_value.specs.declared.value.Value.{Value}
-use Rattle.jx9_meaning.specs.Meaning.{Ending, Spent, Meaning, Outcome, Goes, Ends, Unfinished, after, ◌>>=◌, pure, ends, take, spend, put_or, fits, sized, units_of}
+use Rattle.uq_json.specs.Text.{text_of}
+use Rattle.jx9_syntax.specs.declared.expression.Change.{Change as How}
+use Rattle.jx9_syntax.specs.declared.expression.Change.TheVariants as how
+use Rattle.jx9_meaning.specs.Expression.{operation}
+use Rattle.jx9_meaning.specs.Meaning.{Ending, Spent, Meaning, Outcome, Goes, Ends, Unfinished, after, ◌>>=◌, pure, ends, take, spend, ok_or, put_or, fits, sized, units_of}
+use Rattle.jx9_meaning.specs.Operators.{operate}
 use Rattle.jx9_meaning.specs.World.{State, variable}
+use Rattle.jx9_meaning.specs.declared.fault.FaultKind.{FaultKind}
 use Rattle.jx9_compile.specs.Machine.{Frame, Machine}
 use Rattle.jx9_compile.specs.Run.{gives, run}
 use Rattle.jx9_compile.specs.declared.code.Code.{Code}
@@ -63,6 +69,14 @@ pub natural_sized : (line : ℕ) (v : Value) → Natural (sized line v)
 unfolding sized
 natural_sized line v =
     natural_then (fits line v) _ (natural_fits line v) (λ a. natural_then (take (units_of v)) (λ _. pure v) (natural_take (units_of v)) (λ b. natural_pure v))
+
+natural_ok : (line : ℕ) (r : Result Value FaultKind) → Natural (ok_or line r)
+natural_ok line (Ok v) = natural_pure v
+natural_ok line (Err kind) = natural_ends _
+
+pub natural_operation : (line : ℕ) (old : Value) (change : How) (right : Value) → Natural (operation line old change right)
+natural_operation line old (how.By operator) right = natural_ok line (operate operator old right)
+natural_operation line old how.Join right = natural_fits line (Value.Text (text_of old ++ text_of right))
 
 -- such a step in one op, which puts its value on the stack
 module _ (code : Code) (function : ℕ) (names : List Bytes) where

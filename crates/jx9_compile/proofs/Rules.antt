@@ -11,7 +11,7 @@ use Rattle.jx9_syntax.specs.declared.expression.Link.{Link}
 use Rattle.jx9_syntax.specs.declared.parts.Part.{Part}
 use Rattle.jx9_syntax.specs.declared.statement.Branch.{Branch}
 use Rattle.jx9_syntax.specs.declared.statement.Statement.{Statement}
-use Rattle.jx9_compile.specs.Emitted.{Loop, jump_where, operator_op, PartsCode, no_parts, text_part, variable_part, ExprCode, literal_code, mixed_code, variable_code, group_code, negate_code, not_code, step_code, or_code, and_code, join_code, chain_code, choice_code, assign_code, AllCode, no_values, value_code, DecidingCode, no_operands, operand_code, LinksCode, no_links, link_code, PrintsCode, no_prints, print_code, EffectCode, dropped_code, moved_code, EffectsCode, no_effects, effect_code, TestCode, no_test, test_code, StatementCode, block_code, print_statement, expr_statement, if_code, while_code, for_code, break_code, continue_code, return_code, return_null_code, SequenceCode, no_statements, statement_code, BranchesCode, no_branch, other_branch, branch_code, LoopCode, loop_code}
+use Rattle.jx9_compile.specs.Emitted.{Loop, jump_where, operator_op, PartsCode, no_parts, text_part, variable_part, ExprCode, literal_code, mixed_code, variable_code, group_code, negate_code, not_code, step_code, or_code, and_code, join_code, chain_code, choice_code, assign_code, change_code, AllCode, no_values, value_code, DecidingCode, no_operands, operand_code, LinksCode, no_links, link_code, PrintsCode, no_prints, print_code, EffectCode, dropped_code, moved_code, EffectsCode, no_effects, effect_code, TestCode, no_test, test_code, StatementCode, block_code, print_statement, expr_statement, if_code, while_code, for_code, break_code, continue_code, return_code, return_null_code, SequenceCode, no_statements, statement_code, BranchesCode, no_branch, other_branch, branch_code, LoopCode, loop_code}
 use Rattle.jx9_compile.specs.Run.{is_unit}
 use Rattle.jx9_compile.specs.Shape.{jump_of, callee_of}
 use Rattle.jx9_compile.specs.declared.op.Op.{Op}
@@ -96,6 +96,7 @@ module _ {ops : List Op} {names : List Bytes} where
   expr_unit (chain_code f links is u d ds) = ap is_unit u
   expr_unit (choice_code test f g is u dt h less df j over dg) = ap is_unit u
   expr_unit (assign_code name slot right is known u d c w) = ap is_unit u
+  expr_unit (change_code name slot how right is known u d h) = ap is_unit u
 
   effect_unit : {at to : ℕ} {e : Expr} → EffectCode ops names at e to → is_unit (slice_get ops at) ≡ true
   effect_unit (dropped_code e d h) = expr_unit d
@@ -149,6 +150,8 @@ module _ {ops : List Op} {names : List Bytes} where
         (tame_then (expr_tame df) (tame_then (jump_op end to _ j refl refl (inl over)) (expr_tame dg)))))
     expr_tame (assign_code {at = at} {to = to} name slot right is known u d c w) =
         tame_then (plain_op at _ u refl refl) (tame_then (expr_tame d) (tame_then (plain_op to _ c refl refl) (plain_op (to + 1) _ w refl refl)))
+    expr_tame (change_code {at = at} {to = to} name slot how right is known u d h) =
+        tame_then (plain_op at _ u refl refl) (tame_then (expr_tame d) (plain_op to _ h refl refl))
 
     values_tame : {at : ℕ} {es : List Expr} {to : ℕ} → AllCode ops names at es to → IsTame ops at to
     values_tame (no_values {at = at}) = tame_nothing at

@@ -7,7 +7,8 @@ use Rattle.uq_value.specs.Data.{Bytes}
 use Rattle.jx9_syntax.specs.Trees.{ExprLayer, StatementLayer, node_of, kind_of}
 use Rattle.jx9_syntax.specs.declared.expression.Access.{Access}
 use Rattle.jx9_syntax.specs.declared.expression.Access.TheOpen.{Node-F}
-use Rattle.jx9_syntax.specs.declared.expression.Access.TheViews.{rolls-Literal, rolls-Mixed, rolls-Group, rolls-Negate, rolls-Not, rolls-Step, rolls-Or, rolls-And, rolls-Join, rolls-Chain, rolls-Cond, rolls-Var, rolls-Assign}
+use Rattle.jx9_syntax.specs.declared.expression.Access.TheViews.{rolls-Literal, rolls-Mixed, rolls-Group, rolls-Negate, rolls-Not, rolls-Step, rolls-Or, rolls-And, rolls-Join, rolls-Chain, rolls-Cond, rolls-Var, rolls-Assign, rolls-Change}
+use Rattle.jx9_syntax.specs.declared.expression.Change.{Change as How}
 use Rattle.jx9_syntax.specs.declared.expression.Expr.{Expr}
 use Rattle.jx9_syntax.specs.declared.expression.Link.{Link}
 use Rattle.jx9_syntax.specs.declared.expression.Literal.{Literal}
@@ -377,6 +378,13 @@ module _ (e : Expr) where
       → (place.steps ≡ [] → empty ≡ true) → Adds (λ q. (empty ≡ false) × (q ≡ problem e.token NotBuilt e.line)) a b → Adds (ExprProblem got) b c → Adds (ExprProblem e) a c
   assign_adds a b c place right got empty is same to from p q =
       node_adds e (Node-F.Assign place right) a b c (open_node _ is (rolls-Assign place right)) (looked place.steps empty e.token e.line a b to from p)
+      (one_in right b c (found_in right got b c same q))
+
+  pub change_adds : (a b c : Option Problem) (how : How) (place : Place) (right got : Expr) (empty : Bool) → e.node ≡ node.Change place how right → got ≡ right
+      → (empty ≡ true → place.steps ≡ []) → (place.steps ≡ [] → empty ≡ true) → Adds (λ q. (empty ≡ false) × (q ≡ problem e.token NotBuilt e.line)) a b
+      → Adds (ExprProblem got) b c → Adds (ExprProblem e) a c
+  change_adds a b c how place right got empty is same to from p q =
+      node_adds e (Node-F.Change place how right) a b c (open_node _ is (rolls-Change place how right)) (looked place.steps empty e.token e.line a b to from p)
       (one_in right b c (found_in right got b c same q))
 
   pub unbuilt_adds : (a b : Option Problem) → (is_built (node_of e) ≡ false) × (exprs_within (node_of e) ≡ []) → Adds (λ q. (false ≡ false) × (q ≡ problem e.token NotBuilt e.line)) a b

@@ -1,17 +1,20 @@
 -- The steps of the meaning that ops take: each is finished, and brings no units.
 use Rattle.std.proofs.Common.{ℕ, ◌≤◌, Option, Some, None, arith}
-use Rattle.std.specs.Prelude.{Bool, true, false, if◌then◌else◌, nat_lt, length, pos, Result, Ok, Err}
+use Rattle.std.specs.Prelude.{Bool, true, false, if◌then◌else◌, nat_lt, length, pos, ◌++◌, Result, Ok, Err}
 use Rattle.uq_value.specs.Number.{number}
 use Rattle.uq_value.specs.Put.{Put, limited}
 use Rattle.uq_value.specs.declared.value.Value.{Value}
+use Rattle.uq_json.specs.Text.{text_of}
+use Rattle.jx9_syntax.specs.declared.expression.Change.{Change as How}
+use Rattle.jx9_syntax.specs.declared.expression.Change.TheVariants as how
 use Rattle.jx9_syntax.specs.declared.expression.Step.{Step}
-use Rattle.jx9_meaning.specs.Expression.{stepped}
-use Rattle.jx9_meaning.specs.Meaning.{Spent, Meaning, Outcome, Goes, Ends, Unfinished, after, pure, some_or, ok_or, put_or, spend, take, tell, most_events, fits, sized, units_of}
+use Rattle.jx9_meaning.specs.Expression.{stepped, operation, change_units}
+use Rattle.jx9_meaning.specs.Meaning.{Spent, Meaning, Outcome, Goes, Ends, Unfinished, after, ◌>>=◌, pure, some_or, ok_or, put_or, spend, take, tell, most_events, fits, sized, units_of}
 use Rattle.jx9_meaning.specs.Operators.{operate}
 use Rattle.jx9_meaning.specs.World.{State, Event, with_event}
 use Rattle.jx9_meaning.specs.declared.fault.FaultKind.{FaultKind}
 use Rattle.jx9_meaning.specs.declared.fault.FaultKind.TheVariants.{NotNumber}
-use Rattle.jx9_compile.specs.Run.{counting}
+use Rattle.jx9_compile.specs.Run.{counting, changing}
 
 -- it is finished, and where it goes on there are no more units
 abbrev pub Thrifty : {A : Type 0} → State → Outcome A → Type 0
@@ -84,3 +87,13 @@ thrifty_counting s line step v =
     (λ old t. thrifty_then t (ok_or line (operate (stepped step) (Value.Int old) (Value.Int (pos 1))) t) _
     (thrifty_ok t line (operate (stepped step) (Value.Int old) (Value.Int (pos 1))))
     (λ new u. let two : Value × Value = (Value.Int old, new) in thrifty_pure u two))
+
+thrifty_operation : (s : State) (line : ℕ) (old : Value) (change : How) (right : Value) → Thrifty s (operation line old change right s)
+thrifty_operation s line old (how.By operator) right = thrifty_ok s line (operate operator old right)
+thrifty_operation s line old how.Join right = thrifty_fits s line (Value.Text (text_of old ++ text_of right))
+
+pub thrifty_changing : (s : State) (line : ℕ) (change : How) (old right : Value) → Thrifty s (changing line change old right s)
+thrifty_changing s line change old right =
+    thrifty_then s (operation line old change right s) _ (thrifty_operation s line old change right)
+    (λ new t. thrifty_then t (fits line new t) (λ _. take (change_units change new) >>= (λ _. pure new)) (thrifty_fits t line new)
+    (λ a u. thrifty_then u (take (change_units change new) u) (λ _. pure new) (thrifty_take u (change_units change new)) (λ b v. thrifty_pure v new)))

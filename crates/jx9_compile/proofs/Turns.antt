@@ -16,11 +16,11 @@ use Rattle.jx9_meaning.specs.Script.{Ended, ended, most_active, with_active}
 use Rattle.jx9_meaning.specs.World.{State, Out}
 use Rattle.jx9_meaning.specs.declared.fault.FaultKind.TheVariants.{CallDepth}
 use Rattle.jx9_compile.specs.Machine.{Frame, Machine, ops_of, first_slots, at_place, on, with_stack, with_slots, with_outside, top, below, slot_value}
-use Rattle.jx9_compile.specs.Run.{Next, gives, is_unit, jumped, jumped_if, counting, called, arguments, left, act}
+use Rattle.jx9_compile.specs.Run.{Next, gives, is_unit, jumped, jumped_if, counting, changing, called, arguments, left, act}
 use Rattle.jx9_compile.specs.declared.code.Code.{Code}
 use Rattle.jx9_compile.specs.declared.op.Op.{Op}
-use Rattle.jx9_compile.specs.declared.op.Op.TheVariants.{Unit as OneUnit, Push, Pop, Copy, Load, Store, Assign, Count, Add, Operate, Not, Join, Jump, JumpUnless, JumpIf, Call, Print, End}
-use Rattle.jx9_compile.proofs.Steps.{Thrifty, thrifty_take, thrifty_tell, thrifty_ok, thrifty_fits, thrifty_sized, thrifty_counting}
+use Rattle.jx9_compile.specs.declared.op.Op.TheVariants.{Unit as OneUnit, Push, Pop, Copy, Load, Store, Assign, Count, Change, Add, Operate, Not, Join, Jump, JumpUnless, JumpIf, Call, Print, End}
+use Rattle.jx9_compile.proofs.Steps.{Thrifty, thrifty_take, thrifty_tell, thrifty_ok, thrifty_fits, thrifty_sized, thrifty_counting, thrifty_changing}
 
 module _ (code : Code) where
   -- the ops ahead of a call, of those that wait, and of a machine
@@ -137,6 +137,9 @@ module _ (code : Code) where
   by_op (Count slot step line) m h =
       by_step _ m (counting line step (slot_value m slot) m.outside) (λ two. shown step two.0 two.1 ∷ m.frame.stack)
       (λ two. slice_set m.frame.slots slot two.1) h (thrifty_counting m.outside line step (slot_value m slot)) (λ next. refl)
+  by_op (Change slot how line) m h =
+      by_step _ m (changing line how (slot_value m slot) (top m.frame.stack) m.outside) (λ new. new ∷ below m.frame.stack)
+      (λ new. slice_set m.frame.slots slot new) h (thrifty_changing m.outside line how (slot_value m slot) (top m.frame.stack)) (λ next. refl)
   by_op (Add line) m h = by_operator _ m binary.Add line h (λ next. refl)
   by_op (Operate operator line) m h = by_operator _ m operator line h (λ next. refl)
   by_op Not m h = at_once _ m _ _ h (λ next. refl)

@@ -1,5 +1,5 @@
 -- What the compiler promises.
-use Rattle.std.specs.Prelude.{◌≡◌, ℕ, ◌+◌, ◌<◌, true, false, List, length, Some, None, ◌⊎◌, slice_get}
+use Rattle.std.specs.Prelude.{◌≡◌, ℕ, ◌+◌, ◌-◌, ◌^◌, ◌<◌, true, false, List, length, Some, None, ◌⊎◌, slice_get}
 use Rattle.uq_value.specs.Data.{Bytes}
 use Rattle.jx9_syntax.specs.declared.program.Program.{Program}
 use Rattle.jx9_syntax.specs.declared.statement.Statement.{Statement}
@@ -29,6 +29,11 @@ pub record KeepsRules (code : Code) : Type 0 where
       → (at < to) ⊎ (is_unit (slice_get (ops_of code f) to) ≡ true)
   pub calls : (f at callee : ℕ) (op : Op) → slice_get (ops_of code f) at ≡ Some op → callee_of op ≡ Some callee
       → is_unit (slice_get (ops_of code callee) 0) ≡ true
+
+-- From every world with fewer than 2^64 units the code makes fewer than 2^64 - 1 events: so no run of it is cut off by the
+-- rule on their number.
+abbrev pub KeepsNumber : Code → Type 0
+KeepsNumber code = (w : World) (ended : Ended) → w.units < 2 ^ 64 → CodeRun code w ended → length ended.events < 2 ^ 64 - 1
 
 -- A function that runs these statements and ends. Its slots hold variables with different names.
 pub record IsStart (ts : List Statement) (f : Function) : Type 0 where

@@ -2,6 +2,7 @@
 use Rattle.std.specs.Prelude.{◌≡◌, ℕ, ◌+◌, ◌<◌, ◌≤◌, Bool, true, not, is_some, List, [], ◌∷◌, length, Option, Some, None, slice_get, slice_set}
 use Rattle.uq_value.specs.Data.{Bytes}
 use Rattle.uq_value.specs.declared.value.Value.{Value}
+use Rattle.jx9_syntax.specs.declared.expression.Change.{Change as How}
 use Rattle.jx9_syntax.specs.declared.expression.Expr.{Expr}
 use Rattle.jx9_syntax.specs.declared.expression.Link.{Link}
 use Rattle.jx9_syntax.specs.declared.expression.Node.{Node}
@@ -14,7 +15,7 @@ use Rattle.jx9_compile.specs.Problems.{exprs_of, operands_of, statements_of, IsC
 use Rattle.jx9_compile.specs.Slots.{AreDistinct, KeepsSlots}
 use Rattle.jx9_compile.specs.declared.emitting.Emitter.{Emitter}
 use Rattle.jx9_compile.specs.declared.op.Op.{Op}
-use Rattle.jx9_compile.specs.declared.op.Op.TheVariants.{Unit as OneUnit, Push, Assign, Jump, JumpUnless}
+use Rattle.jx9_compile.specs.declared.op.Op.TheVariants.{Unit as OneUnit, Push, Assign, Change, Jump, JumpUnless}
 
 -- the same ops from one place up to another
 pub record IsSame (ops ops' : List Op) (at to : ℕ) : Type 0 where
@@ -30,9 +31,17 @@ IsOp op ops names at to = (slice_get ops at ≡ Some op) × (to ≡ at + 1)
 abbrev pub IsSlot : Bytes → ℕ → Stands
 IsSlot name slot ops names at to = (slice_get names slot ≡ Some name) × (to ≡ at)
 
+-- an op on the slot of a variable
+abbrev pub IsOnSlot : (ℕ → Op) → Bytes → Stands
+IsOnSlot op name ops names at to = (slot : ℕ) × (slice_get names slot ≡ Some name) × (slice_get ops at ≡ Some (op slot)) × (to ≡ at + 1)
+
 -- the top is moved into a variable
 abbrev pub IsMove : ℕ → Bytes → Stands
-IsMove line name ops names at to = (slot : ℕ) × (slice_get names slot ≡ Some name) × (slice_get ops at ≡ Some (Assign slot line)) × (to ≡ at + 1)
+IsMove line name = IsOnSlot (λ slot. Assign slot line) name
+
+-- a variable is changed by the top
+abbrev pub IsChange : How → ℕ → Bytes → Stands
+IsChange how line name = IsOnSlot (λ slot. Change slot how line) name
 
 -- ---- expressions, where nothing in them keeps them from being compiled
 

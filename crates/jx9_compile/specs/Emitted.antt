@@ -6,6 +6,7 @@ use Rattle.jx9_syntax.specs.Trees.{node_of, kind_of}
 use Rattle.jx9_syntax.specs.declared.expression.Access.TheOpen.{Node-F}
 use Rattle.jx9_syntax.specs.declared.expression.Binary.{Binary}
 use Rattle.jx9_syntax.specs.declared.expression.Binary.TheVariants as binary
+use Rattle.jx9_syntax.specs.declared.expression.Change.{Change as How}
 use Rattle.jx9_syntax.specs.declared.expression.Expr.{Expr}
 use Rattle.jx9_syntax.specs.declared.expression.Link.{Link}
 use Rattle.jx9_syntax.specs.declared.expression.Literal.{Literal}
@@ -18,7 +19,7 @@ use Rattle.jx9_syntax.specs.declared.statement.Kind.TheOpen.{Kind-F}
 use Rattle.jx9_syntax.specs.declared.statement.Statement.{Statement}
 use Rattle.jx9_meaning.specs.Expression.{literal_value}
 use Rattle.jx9_compile.specs.declared.op.Op.{Op}
-use Rattle.jx9_compile.specs.declared.op.Op.TheVariants.{Unit as OneUnit, Push, Pop, Copy, Load, Assign, Count, Add, Operate, Not, Join, Jump, JumpUnless, JumpIf, Print, End}
+use Rattle.jx9_compile.specs.declared.op.Op.TheVariants.{Unit as OneUnit, Push, Pop, Copy, Load, Assign, Count, Change, Add, Operate, Not, Join, Jump, JumpUnless, JumpIf, Print, End}
 
 -- a loop's places: behind it, and where its next turn begins
 pub record Loop : Type 0 where
@@ -91,6 +92,8 @@ module _ (ops : List Op) (names : List Bytes) where
       assign_code : {at to : ℕ} {e : Expr} (name : Bytes) (slot : ℕ) (right : Expr) → node_of e ≡ Node-F.Assign (variable_place name) right
           → HasSlot slot name → HasOp at (OneUnit e.line) → ExprCode (at + 1) right to → HasOp to Copy → HasOp (to + 1) (Assign slot e.line)
           → ExprCode at e (to + 1 + 1)
+      change_code : {at to : ℕ} {e : Expr} (name : Bytes) (slot : ℕ) (how : How) (right : Expr) → node_of e ≡ Node-F.Change (variable_place name) how right
+          → HasSlot slot name → HasOp at (OneUnit e.line) → ExprCode (at + 1) right to → HasOp to (Change slot how e.line) → ExprCode at e (to + 1)
 
     -- the values of some expressions, each put on the stack
     pub data AllCode : ℕ → List Expr → ℕ → Type 0 where

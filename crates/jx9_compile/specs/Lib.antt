@@ -4,6 +4,7 @@ pub mod Shape
 pub mod Assembled
 pub mod Heights
 pub mod Slots
+pub mod Names
 pub mod Emitted
 pub mod Correct
 pub mod Problems

@@ -45,7 +45,7 @@ is_built (Node-F.Chain e links) = true
 is_built (Node-F.Cond test first second) = true
 is_built (Node-F.Assign place e) = are_none place.steps
 is_built (Node-F.Append place e) = false
-is_built (Node-F.Change place how e) = false
+is_built (Node-F.Change place how e) = are_none place.steps
 
 abbrev pub operands_of : List Link → List Expr
 operands_of links = map (λ l. l.operand) links
@@ -72,7 +72,7 @@ exprs_within (Node-F.Chain e links) = e ∷ operands_of links
 exprs_within (Node-F.Cond test first second) = test ∷ first ∷ second ∷ []
 exprs_within (Node-F.Assign place e) = e ∷ []
 exprs_within (Node-F.Append place e) = []
-exprs_within (Node-F.Change place how e) = []
+exprs_within (Node-F.Change place how e) = e ∷ []
 
 pub data ExprProblem : Expr → Problem → Type 0 where
   itself : {e : Expr} {q : Problem} → is_built (node_of e) ≡ false → q ≡ problem e.token NotBuilt e.line → ExprProblem e q

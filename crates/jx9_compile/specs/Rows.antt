@@ -1,13 +1,14 @@
 -- Worked codes.
-use Rattle.std.specs.Prelude.{pos, negsuc, true, List, [], ◌∷◌, codes}
+use Rattle.std.specs.Prelude.{pos, negsuc, true, List, [], ◌∷◌, codes, replicate}
 use Rattle.uq_value.specs.declared.value.Value.{Value}
 use Rattle.jx9_syntax.specs.declared.expression.Binary.TheVariants as binary
+use Rattle.jx9_syntax.specs.declared.expression.Change.TheVariants as how
 use Rattle.jx9_syntax.specs.declared.expression.Step.TheVariants.{IncrementFirst, DecrementAfter}
 use Rattle.jx9_meaning.specs.Meaning.{Done, Fault, Spent}
 use Rattle.jx9_meaning.specs.declared.fault.FaultKind.TheVariants.{CallDepth, NotNumber, ZeroDivisor}
 use Rattle.jx9_compile.specs.Runs.{Runs, alone, code, function}
 use Rattle.jx9_compile.specs.declared.op.Op.{Op}
-use Rattle.jx9_compile.specs.declared.op.Op.TheVariants.{Unit as OneUnit, Push, Pop, Copy, Load, Store, Assign, Count, Add, Operate, Not, Join, Jump, JumpUnless, JumpIf, Call, Print, End}
+use Rattle.jx9_compile.specs.declared.op.Op.TheVariants.{Unit as OneUnit, Push, Pop, Copy, Load, Store, Assign, Count, Change, Add, Operate, Not, Join, Jump, JumpUnless, JumpIf, Call, Print, End}
 
 -- takes two units and puts out a number
 abbrev pub two_units : List Op
@@ -44,6 +45,18 @@ pub record CodeRows : Type 0 where
   pub text_has_no_number : Runs
       (alone 1 (Push (Value.Text (codes "a")) ∷ Assign 0 1 ∷ Count 0 IncrementFirst 3 ∷ Print ∷ End ∷ []))
       0 [] (Fault NotNumber 3) 0
+  -- $x = 7; print $x -= 2; print $x;
+  pub change_writes_its_value : Runs
+      (alone 1 (Push (Value.Int (pos 7)) ∷ Assign 0 1 ∷ Push (Value.Int (pos 2)) ∷ Change 0 (how.By binary.Subtract) 1 ∷ Print ∷ Load 0 ∷ Print ∷ End ∷ []))
+      0 (codes "5" ∷ codes "5" ∷ []) Done 0
+  -- $x = "a"; print $x ..= 1; print $x += 1;
+  pub change_has_its_line : Runs
+      (alone 1 (Push (Value.Text (codes "a")) ∷ Assign 0 1 ∷ Push (Value.Int (pos 1)) ∷ Change 0 how.Join 2 ∷ Print ∷ Push (Value.Int (pos 1))
+      ∷ Change 0 (how.By binary.Add) 3 ∷ Print ∷ End ∷ []))
+      0 (codes "a1" ∷ []) (Fault NotNumber 3) 0
+  -- a text of 256 bytes is joined for one unit
+  pub long_change_takes_a_unit : Runs (alone 1 (Push (Value.Text (replicate 256 97)) ∷ Change 0 how.Join 2 ∷ End ∷ [])) 5 [] Done 4
+  pub long_change_is_spent : Runs (alone 1 (Push (Value.Text (replicate 256 97)) ∷ Change 0 how.Join 2 ∷ Print ∷ End ∷ [])) 0 [] Spent 0
   -- the lowest first, of so many
   pub joins_from_the_lowest : Runs
       (alone 0 (Push (Value.Text (codes "x")) ∷ Push (Value.Text (codes "a")) ∷ Push (Value.Int (pos 1)) ∷ Join 2 1 ∷ Print ∷ Print

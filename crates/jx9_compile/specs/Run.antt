@@ -6,9 +6,10 @@ use Rattle.uq_value.specs.declared.value.Value.{Value}
 use Rattle.uq_json.specs.Text.{text_of}
 use Rattle.jx9_syntax.specs.declared.expression.Binary.{Binary}
 use Rattle.jx9_syntax.specs.declared.expression.Binary.TheVariants as binary
+use Rattle.jx9_syntax.specs.declared.expression.Change.{Change as How}
 use Rattle.jx9_syntax.specs.declared.expression.Step.{Step}
-use Rattle.jx9_meaning.specs.Expression.{joined, stepped, shown}
-use Rattle.jx9_meaning.specs.Meaning.{Done, Fault, Spent, Meaning, Outcome, Goes, Ends, Unfinished, pure, some_or, ok_or, fits, sized, tell}
+use Rattle.jx9_meaning.specs.Expression.{joined, stepped, shown, operation, change_units}
+use Rattle.jx9_meaning.specs.Meaning.{Done, Fault, Spent, Meaning, Outcome, Goes, Ends, Unfinished, ◌>>=◌, ◌>>◌, pure, some_or, ok_or, fits, sized, tell}
 use Rattle.jx9_meaning.specs.Meaning as meaning
 use Rattle.jx9_meaning.specs.Operators.{operate}
 use Rattle.jx9_meaning.specs.Script.{Ended, ended, most_active, with_active}
@@ -17,7 +18,7 @@ use Rattle.jx9_meaning.specs.declared.fault.FaultKind.TheVariants.{NotNumber, Ca
 use Rattle.jx9_compile.specs.Machine.{Frame, Machine, ops_of, first_slots, at_place, on, with_stack, with_slots, with_outside, top, below, slot_value, first}
 use Rattle.jx9_compile.specs.declared.code.Code.{Code}
 use Rattle.jx9_compile.specs.declared.op.Op.{Op}
-use Rattle.jx9_compile.specs.declared.op.Op.TheVariants.{Unit as OneUnit, Push, Pop, Copy, Load, Store, Assign, Count, Add, Operate, Not, Join, Jump, JumpUnless, JumpIf, Call, Print, End}
+use Rattle.jx9_compile.specs.declared.op.Op.TheVariants.{Unit as OneUnit, Push, Pop, Copy, Load, Store, Assign, Count, Change, Add, Operate, Not, Join, Jump, JumpUnless, JumpIf, Call, Print, End}
 
 -- how a run ends, where so many ops are enough
 abbrev pub Result' : Type 0
@@ -79,6 +80,19 @@ counted next m slot step line =
     gives (counting line step (slot_value m slot) m.outside)
     (λ two s. next (with_stack (shown step two.0 two.1 ∷ m.frame.stack) (with_slots (slice_set m.frame.slots slot two.1) (on (with_outside s m)))))
 
+-- what `op=` writes, from the old value and the right side, within the limits and for the units of its size
+abbrev pub changing : ℕ → How → Value → Value → Meaning Value
+changing line how old right = do
+  new ← operation line old how right
+  fits line new
+  meaning.take (change_units how new)
+  pure new
+
+abbrev pub changed : Next → Machine → ℕ → How → ℕ → Result'
+changed next m slot how line =
+    gives (changing line how (slot_value m slot) (top m.frame.stack) m.outside)
+    (λ new s. next (with_stack (new ∷ below m.frame.stack) (with_slots (slice_set m.frame.slots slot new) (on (with_outside s m)))))
+
 -- ---- calls
 
 -- the arguments, from the lowest on
@@ -121,6 +135,7 @@ act code next (Some (Load slot)) m = next (with_stack (slot_value m slot ∷ m.f
 act code next (Some (Store slot)) m = next (stored m slot)
 act code next (Some (Assign slot line)) m = assigned next m slot line
 act code next (Some (Count slot step line)) m = counted next m slot step line
+act code next (Some (Change slot how line)) m = changed next m slot how line
 act code next (Some (Add line)) m = operated next m binary.Add line
 act code next (Some (Operate operator line)) m = operated next m operator line
 act code next (Some Not) m = next (with_stack (Value.Bool (not (truth (top m.frame.stack))) ∷ below m.frame.stack) (on m))

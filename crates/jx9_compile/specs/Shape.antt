@@ -1,7 +1,7 @@
 -- What an op takes from the stack and puts on it, and what it names.
 use Rattle.std.specs.Prelude.{ℕ, ◌+◌, Bool, true, false, if◌then◌else◌, Option, Some, None}
 use Rattle.jx9_compile.specs.declared.op.Op.{Op}
-use Rattle.jx9_compile.specs.declared.op.Op.TheVariants.{Unit as OneUnit, Push, Pop, Copy, Load, Store, Assign, Count, Add, Operate, Not, Join, Jump, JumpUnless, JumpIf, Call, Print, End}
+use Rattle.jx9_compile.specs.declared.op.Op.TheVariants.{Unit as OneUnit, Push, Pop, Copy, Load, Store, Assign, Count, Change, Add, Operate, Not, Join, Jump, JumpUnless, JumpIf, Call, Print, End}
 
 -- so many values it takes from the stack: `End` takes its value only where there is one
 abbrev pub takes : Op → ℕ
@@ -13,6 +13,7 @@ takes (Load slot) = 0
 takes (Store slot) = 1
 takes (Assign slot line) = 1
 takes (Count slot step line) = 0
+takes (Change slot how line) = 1
 takes (Add line) = 2
 takes (Operate operator line) = 2
 takes Not = 1
@@ -34,6 +35,7 @@ puts (Load slot) = 1
 puts (Store slot) = 0
 puts (Assign slot line) = 0
 puts (Count slot step line) = 1
+puts (Change slot how line) = 1
 puts (Add line) = 1
 puts (Operate operator line) = 1
 puts Not = 1
@@ -67,6 +69,7 @@ slot_of (Load slot) = Some slot
 slot_of (Store slot) = Some slot
 slot_of (Assign slot line) = Some slot
 slot_of (Count slot step line) = Some slot
+slot_of (Change slot how line) = Some slot
 slot_of _ = None
 
 -- the function that it calls

@@ -1,10 +1,14 @@
 //! Trees by hand, and the ops that they become.
 
+ghost use Rattle.std.specs.Prelude.{[]};
+ghost use Rattle.jx9_syntax.specs.Nesting.{StatementsFit, most_nesting};
+
 use crate::compiling::start_of;
 use crate::problems::{Problem, first_in};
 use crate::*;
 use jx9_syntax::{
-    Binary, Branch, Expr, Kind, Link, Literal, Node, Part, Parts, Place, Statement, Step,
+    Access, Binary, Branch, Change, Expr, Function as Definition, Kind, Link, Literal, Named, Node,
+    Part, Parts, Place, Program, Statement, Step,
 };
 use sqlite_items::{Boxed, Items};
 use std::alloc::Global;
@@ -60,6 +64,10 @@ fn assign(rt: &impl Abort, alloc: Global, name: &str, right: Expr) -> Expr {
     expr(Node::Assign(place(rt, alloc, name), boxed(rt, alloc, right)))
 }
 
+fn change(rt: &impl Abort, alloc: Global, name: &str, how: Change, right: Expr) -> Node {
+    Node::Change(place(rt, alloc, name), how, boxed(rt, alloc, right))
+}
+
 fn statement(kind: Kind) -> Statement {
     Statement {
         line: 2,
@@ -99,6 +107,7 @@ fn shown(rt: &impl Abort, alloc: Global, op: &Op) -> String {
         Op::Store(slot) => format!(in alloc; "store {slot}"),
         Op::Assign { slot, line } => format!(in alloc; "assign {slot} {line}"),
         Op::Count { slot, step, line } => format!(in alloc; "count {slot} {step:?} {line}"),
+        Op::Change { slot, how, line } => format!(in alloc; "change {slot} {how:?} {line}"),
         Op::Add { line } => format!(in alloc; "add {line}"),
         Op::Operate { operator, line } => format!(in alloc; "{operator:?} {line}"),
         Op::Not => format!(in alloc; "not"),
@@ -113,10 +122,8 @@ fn shown(rt: &impl Abort, alloc: Global, op: &Op) -> String {
     shown.expect(rt, "a text")
 }
 
-/// A program with these statements has these ops, one a line.
-fn is_code<const N: usize>(rt: &impl Abort, alloc: Global, statements: [Statement; N], ops: &str) {
-    let statements = Vec::from_array(alloc, statements).expect(rt, "statements");
-    let function = start_of(alloc, statements.as_slice()).expect(rt, "memory");
+/// A function has these ops, one a line.
+fn has_ops(rt: &impl Abort, alloc: Global, function: &Function, ops: &str) {
     let mut all = String::new(alloc);
     for op in function.ops() {
         all.push_str(shown(rt, alloc, op).as_str())
@@ -124,6 +131,13 @@ fn is_code<const N: usize>(rt: &impl Abort, alloc: Global, statements: [Statemen
         all.push_str("\n").expect(rt, "memory");
     }
     assert_eq!(rt; all.as_str(), ops);
+}
+
+/// The function of these statements has these ops, one a line.
+fn is_code<const N: usize>(rt: &impl Abort, alloc: Global, statements: [Statement; N], ops: &str) {
+    let statements = Vec::from_array(alloc, statements).expect(rt, "statements");
+    let function = start_of(alloc, statements.as_slice()).expect(rt, "memory");
+    has_ops(rt, alloc, &function, ops);
 }
 
 /// The statement that prints this expression has these ops.
@@ -134,7 +148,26 @@ fn is_value(rt: &impl Abort, alloc: Global, e: Expr, ops: &str) {
 #[test]
 fn values_are_pushed_from_the_left(rt: HostRuntime) {
     let alloc = rt.alloc();
-    is_value(&rt, alloc, int(7), "unit 2\nunit 1\npush 7\nprint\nend\n");
+    let literals = [
+        (Literal::Int(7), "unit 2\nunit 1\npush 7\nprint\nend\n"),
+        (Literal::Int(-1), "unit 2\nunit 1\npush -1\nprint\nend\n"),
+        (Literal::Null, "unit 2\nunit 1\npush null\nprint\nend\n"),
+        (
+            Literal::Bool(true),
+            "unit 2\nunit 1\npush true\nprint\nend\n",
+        ),
+        (
+            Literal::Bool(false),
+            "unit 2\nunit 1\npush false\nprint\nend\n",
+        ),
+        (
+            Literal::Text(text(&rt, alloc, "AB")),
+            "unit 2\nunit 1\npush [65, 66]\nprint\nend\n",
+        ),
+    ];
+    for (literal, ops) in literals {
+        is_value(&rt, alloc, expr(Node::Literal(literal)), ops);
+    }
     is_value(
         &rt,
         alloc,
@@ -204,6 +237,31 @@ fn an_assignment_is_a_value_or_moves_it(rt: HostRuntime) {
         alloc,
         [first, second, third],
         "unit 2\nunit 1\nunit 1\npush 1\nassign 0 1\nunit 2\nunit 1\nunit 1\nload 0\nassign 1 1\nunit 2\nunit 1\nload 1\npop\nend\n",
+    );
+}
+
+#[test]
+fn a_variable_is_changed_by_what_stands_on_the_right(rt: HostRuntime) {
+    let alloc = rt.alloc();
+    let sum = change(
+        &rt,
+        alloc,
+        "y",
+        Change::By(Binary::Add),
+        var(&rt, alloc, "x"),
+    );
+    is_value(
+        &rt,
+        alloc,
+        expr(sum),
+        "unit 2\nunit 1\nunit 1\nload 0\nchange 1 By(Add) 1\nprint\nend\n",
+    );
+    let text = change(&rt, alloc, "x", Change::Join, int(1));
+    is_code(
+        &rt,
+        alloc,
+        [statement(Kind::Expr(expr(text)))],
+        "unit 2\nunit 1\nunit 1\npush 1\nchange 0 Join 1\npop\nend\n",
     );
 }
 
@@ -360,13 +418,13 @@ fn found(token: u32, kind: CompileKind) -> Option<Problem> {
     Some(Problem {
         token,
         kind,
-        line: token + 1,
+        line: token.saturating_add(1),
     })
 }
 
 fn expr_at(token: u32, node: Node) -> Expr {
     Expr {
-        line: token + 1,
+        line: token.saturating_add(1),
         token,
         node,
     }
@@ -374,10 +432,52 @@ fn expr_at(token: u32, node: Node) -> Expr {
 
 fn statement_at(token: u32, kind: Kind) -> Statement {
     Statement {
-        line: token + 1,
+        line: token.saturating_add(1),
         token,
         kind,
     }
+}
+
+fn variable(rt: &impl Abort, alloc: Global, number: u32) -> String {
+    format!(in alloc; "v{number}").expect(rt, "a name")
+}
+
+/// The slots that a program's ops read or write, in order.
+fn slots_used(rt: &impl Abort, alloc: Global, ops: &[Op]) -> Vec<u32> {
+    let mut slots = Vec::new(alloc);
+    for op in ops {
+        if let Op::Assign { slot, .. } | Op::Load(slot) = op {
+            slots.push(*slot).expect(rt, "memory");
+        }
+    }
+    slots
+}
+
+/// The variables are written in one order and read in the other.
+#[test]
+fn each_of_many_variables_keeps_a_slot_of_its_own(rt: HostRuntime) {
+    let alloc = rt.alloc();
+    let count = 20_000;
+    let mut statements = Vec::new(alloc);
+    let mut expected = Vec::new(alloc);
+    for number in 0..count {
+        let name = variable(&rt, alloc, number);
+        let written = assign(&rt, alloc, name.as_str(), int(7));
+        statements
+            .push(statement(Kind::Expr(written)))
+            .expect(&rt, "memory");
+        expected.push(number).expect(&rt, "memory");
+    }
+    for number in (0..count).rev() {
+        let name = variable(&rt, alloc, number);
+        let read = print(&rt, alloc, var(&rt, alloc, name.as_str()));
+        statements.push(statement(read)).expect(&rt, "memory");
+        expected.push(number).expect(&rt, "memory");
+    }
+    let function = start_of(alloc, statements.as_slice()).expect(&rt, "memory");
+    assert_eq!(rt; function.slots(), count);
+    let used = slots_used(&rt, alloc, function.ops());
+    assert!(rt; used.as_slice() == expected.as_slice());
 }
 
 #[test]
@@ -400,11 +500,27 @@ fn what_is_not_built_is_found(rt: HostRuntime) {
         problem(&rt, alloc, [statement_at(4, Kind::Expr(within))]),
         found(7, not_built)
     );
-    let steps = items(&rt, alloc, [jx9_syntax::Access::Index(int(0))]);
+    let steps = items(&rt, alloc, [Access::Index(int(0))]);
     let path = expr_at(2, Node::Var(text(&rt, alloc, "a"), steps));
     assert_eq!(rt;
         problem(&rt, alloc, [statement_at(1, print(&rt, alloc, path))]),
         found(2, not_built)
+    );
+    // on the right of `+=`, and `+=` on an item
+    let lambda = expr_at(4, Node::Lambda(1));
+    let sum = expr_at(2, change(&rt, alloc, "x", Change::By(Binary::Add), lambda));
+    assert_eq!(rt;
+        problem(&rt, alloc, [statement_at(2, Kind::Expr(sum))]),
+        found(4, not_built)
+    );
+    let item = Place {
+        name: text(&rt, alloc, "a"),
+        steps: items(&rt, alloc, [Access::Index(int(0))]),
+    };
+    let sum = Node::Change(item, Change::Join, boxed(&rt, alloc, int(1)));
+    assert_eq!(rt;
+        problem(&rt, alloc, [statement_at(6, Kind::Expr(expr_at(6, sum)))]),
+        found(6, not_built)
     );
 }
 
@@ -423,6 +539,35 @@ fn a_break_in_no_loop_is_found(rt: HostRuntime) {
     );
     let looped = Kind::While(int(1), body(&rt, alloc, Kind::Break));
     assert_eq!(rt; problem(&rt, alloc, [statement_at(8, looped)]), None);
+}
+
+/// A definition of a function without statements.
+fn definition(rt: &impl Abort, alloc: Global, token: u32) -> Named {
+    Named {
+        line: token.saturating_add(1),
+        token,
+        name: text(rt, alloc, "f"),
+        function: Definition {
+            params: Items::new(alloc),
+            body: statement(Kind::Block(Items::new(alloc))),
+        },
+    }
+}
+
+#[test]
+fn a_definition_is_not_built(rt: HostRuntime) {
+    let alloc = rt.alloc();
+    let definitions = [definition(&rt, alloc, 6), definition(&rt, alloc, 9)];
+    let not_built = CompileKind::NotBuilt;
+    assert_eq!(rt; first_in(&definitions, &[]), found(6, not_built));
+    // before a `break` in no loop, and behind it
+    let behind = [statement_at(20, Kind::Break)];
+    assert_eq!(rt; first_in(&definitions, &behind), found(6, not_built));
+    let before = [statement_at(0, Kind::Break)];
+    assert_eq!(rt;
+        first_in(&definitions, &before),
+        found(0, CompileKind::BreakOutside)
+    );
 }
 
 #[test]
@@ -458,5 +603,115 @@ fn the_first_problem_in_order_of_text_counts(rt: HostRuntime) {
     assert_eq!(rt;
         problem(&rt, alloc, [statement_at(1, choice)]),
         found(3, not_built)
+    );
+}
+
+// ---- whole programs
+
+/// A program of these statements, which are nested no deeper than a program may be.
+fn program(alloc: Global, statements: Vec<Statement>) -> Program
+    requires { StatementsFit [] most_nesting statements.items }
+{
+    Program {
+        functions: Items::new(alloc),
+        lambdas: Items::new(alloc),
+        statements: Items::from_vec(statements),
+    }
+}
+
+fn refused(kind: CompileKind, line: u32) -> Option<CompileFault> {
+    Some(CompileFault::Bad { kind, line })
+}
+
+#[test]
+fn a_program_becomes_one_function(rt: HostRuntime) {
+    let alloc = rt.alloc();
+    // 1;
+    let literal = Expr {
+        line: 1,
+        token: 0,
+        node: Node::Literal(Literal::Int(1)),
+    };
+    let only = Statement {
+        line: 1,
+        token: 0,
+        kind: Kind::Expr(literal),
+    };
+    let statements = Vec::from_array(alloc, [only]).expect(&rt, "statements");
+    let code = compile(alloc, &program(alloc, statements)).expect(&rt, "code");
+    assert_eq!(rt; code.functions().len(), 1);
+    for function in code.functions() {
+        has_ops(&rt, alloc, function, "unit 1\nunit 1\npush 1\npop\nend\n");
+    }
+}
+
+#[test]
+fn the_first_problem_of_a_program_is_named(rt: HostRuntime) {
+    let alloc = rt.alloc();
+    // break;
+    let leaving = Statement {
+        line: 1,
+        token: 0,
+        kind: Kind::Break,
+    };
+    let statements = Vec::from_array(alloc, [leaving]).expect(&rt, "statements");
+    assert_eq!(rt;
+        compile(alloc, &program(alloc, statements)).err(),
+        refused(CompileKind::BreakOutside, 1)
+    );
+    // print $a[0];
+    let index = Expr {
+        line: 1,
+        token: 3,
+        node: Node::Literal(Literal::Int(0)),
+    };
+    let steps = Vec::from_array(alloc, [Access::Index(index)]).expect(&rt, "steps");
+    let item = Expr {
+        line: 1,
+        token: 1,
+        node: Node::Var(text(&rt, alloc, "a"), Items::from_vec(steps)),
+    };
+    let values = Vec::from_array(alloc, [item]).expect(&rt, "values");
+    let printing = Statement {
+        line: 1,
+        token: 0,
+        kind: Kind::Print(Items::from_vec(values)),
+    };
+    let statements = Vec::from_array(alloc, [printing]).expect(&rt, "statements");
+    assert_eq!(rt;
+        compile(alloc, &program(alloc, statements)).err(),
+        refused(CompileKind::NotBuilt, 1)
+    );
+    // an empty statement, and on the next line a `break`
+    let empty = Statement {
+        line: 1,
+        token: 0,
+        kind: Kind::Empty,
+    };
+    let leaving = Statement {
+        line: 2,
+        token: 1,
+        kind: Kind::Break,
+    };
+    let statements = Vec::from_array(alloc, [empty, leaving]).expect(&rt, "statements");
+    assert_eq!(rt;
+        compile(alloc, &program(alloc, statements)).err(),
+        refused(CompileKind::NotBuilt, 1)
+    );
+    // the other way round
+    let leaving = Statement {
+        line: 1,
+        token: 0,
+        kind: Kind::Break,
+    };
+    let empty = Statement {
+        line: 2,
+        token: 2,
+        kind: Kind::Empty,
+    };
+    let statements = Vec::from_array(alloc, [leaving, empty]).expect(&rt, "statements");
+    assert_eq!(rt;
+        compile(alloc, &program(alloc, statements)).err(),
+        refused(CompileKind::BreakOutside, 1)
     );
 }

@@ -1,12 +1,12 @@
 //! The ops of a function, put one behind another.
 
-ghost use Rattle.std.specs.Prelude.{◌≡◌, ◌<◌, ◌↔◌, length, position, IfOk, IsTrue, OnOk};
+ghost use Rattle.std.specs.Prelude.{◌≡◌, ◌<◌, ◌↔◌, length, IfOk, IsTrue, OnOk};
 ghost use Rattle.std.specs.Option.{option_copied};
-ghost use Rattle.std.specs.Str.{bytes_eq};
 ghost use Rattle.jx9_compile.specs.Emits.{Emits, IsElse, IsHeld, IsLanded, IsOp, IsSet, IsSlot, jump_when as spec_jump_when};
 ghost use Rattle.jx9_compile.specs.Holes.{AreSet, IsFilled, hole};
 ghost use Rattle.jx9_compile.specs.declared.op.Op.TheVariants.{Jump as SpecJump};
 
+use crate::names::Names;
 use crate::op::Op;
 use sqlite_items::Items;
 use std::alloc::Global;
@@ -20,7 +20,7 @@ const HOLE: u32 = u32::MAX;
 #[derive(Drop)]
 pub(crate) struct Emitter {
     pub(crate) ops: Items<Op>,
-    pub(crate) names: Items<Text>,
+    pub(crate) names: Names,
 }
 
 impl Emitter {
@@ -107,14 +107,11 @@ impl Emitter {
     pub(crate) fn slot(&mut self, alloc: Global, name: &Text) -> Result<u32, NoMemory>
         ensures { IfOk result (λ slot. Emits self.old self.new (IsSlot name.now slot)) }
     {
-        match position_of(self.names.as_slice(), name.bytes()) {
-            Some(at) => {
-                let slot = number_of(at)?;
-                Ok(slot)
-            }
+        let name = name.bytes();
+        match self.names.slot_of(name) {
+            Some(slot) => Ok(slot),
             None => {
-                let slot = number_of(self.names.len())?;
-                self.names.push(copy_text(alloc, name)?)?;
+                let slot = self.names.add(alloc, name)?;
                 Ok(slot)
             }
         }
@@ -139,12 +136,6 @@ fn is_hole(op: Option<&Op>) -> bool
         Some(Op::Jump(to)) => *to == HOLE,
         _ => false,
     }
-}
-
-fn position_of(names: &[Text], name: &[u8]) -> Option<usize>
-    ensures { result ≡ position (λ n. bytes_eq n name.now) names.now }
-{
-    names.iter().position(|known| known.bytes() == name)
 }
 
 /// The same text. It fits as it did, so that only memory may be wanting.

@@ -2,14 +2,14 @@
 
 ghost use Rattle.std.specs.Prelude.{◌≡◌, OnOk, IfOk};
 ghost use Rattle.jx9_meaning.specs.Expression.{literal_value};
-ghost use Rattle.jx9_compile.specs.Emits.{AreEffects, AreHeld, AreLinks, AreParts, ArePrints, AreValues, Emits, IsBehind, IsDecided, IsEffect, IsExpr, IsMove, IsOp};
+ghost use Rattle.jx9_compile.specs.Emits.{AreEffects, AreHeld, AreLinks, AreParts, ArePrints, AreValues, Emits, IsBehind, IsChange, IsDecided, IsEffect, IsExpr, IsMove, IsOp};
 ghost use Rattle.jx9_compile.specs.Emitted.{operator_op as spec_operator_op};
 ghost use Rattle.jx9_compile.specs.declared.op.Op.TheVariants.{Join as spec_join};
 ghost use Rattle.jx9_syntax.specs.declared.expression.Node as node;
 
 use crate::emitting::{Emitter, copy_text, number_of};
 use crate::op::Op;
-use jx9_syntax::{Access, Binary, Expr, Link, Literal, Node, Part, Place, Step};
+use jx9_syntax::{Access, Binary, Change, Expr, Link, Literal, Node, Part, Place, Step};
 use std::alloc::Global;
 use uq_value::{NoMemory, Text, Value};
 
@@ -93,6 +93,11 @@ impl Emitter {
                 self.expr(alloc, right.get())?;
                 self.put(Op::Copy)?;
                 self.assign(alloc, e.line, place)?;
+                Ok(())
+            }
+            Node::Change(place, how, right) => {
+                self.expr(alloc, right.get())?;
+                self.change(alloc, e.line, *how, place)?;
                 Ok(())
             }
             _ => Ok(()),
@@ -227,6 +232,21 @@ impl Emitter {
     {
         let slot = self.slot(alloc, &place.name)?;
         self.put(Op::Assign { slot, line })?;
+        Ok(())
+    }
+
+    /// `op=` on a variable, whose right side is the top.
+    fn change(
+        &mut self,
+        alloc: Global,
+        line: u32,
+        how: Change,
+        place: &Place,
+    ) -> Result<(), NoMemory>
+        ensures { OnOk result (Emits self.old self.new (IsChange how line place.now.name)) }
+    {
+        let slot = self.slot(alloc, &place.name)?;
+        self.put(Op::Change { slot, how, line })?;
         Ok(())
     }
 

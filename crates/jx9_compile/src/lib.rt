@@ -12,6 +12,7 @@ mod expressions;
 mod function;
 mod heights;
 mod laws;
+mod names;
 mod op;
 mod problems;
 mod statements;

@@ -3,7 +3,7 @@
 ghost use Rattle.std.specs.Prelude.{◌≡◌, ◌-◌, ◌^◌, ◌<◌, IfOk};
 ghost use Rattle.jx9_compile.specs.Shape.{callee_of, goes_on, jump_of, next_of, puts, slot_of, takes};
 
-use jx9_syntax::{Binary, Step};
+use jx9_syntax::{Binary, Change, Step};
 use std::alloc::Global;
 use uq_value::{NoMemory, Value, copy};
 
@@ -34,6 +34,13 @@ pub enum Op {
     Count {
         slot: u32,
         step: Step,
+        line: u32,
+    },
+    /// `op=` on what a slot holds, with the top as its right side, and with a fault in this line. The value that it writes
+    /// takes the place of the top. `..=` takes units by the size of that value.
+    Change {
+        slot: u32,
+        how: Change,
         line: u32,
     },
     /// The sum of the two upper values, with a fault in this line.
@@ -78,7 +85,7 @@ impl Op {
         ensures { result ≡ takes self.now }
     {
         match self {
-            Op::Pop | Op::Copy | Op::Store(_) | Op::Assign { .. } => 1,
+            Op::Pop | Op::Copy | Op::Store(_) | Op::Assign { .. } | Op::Change { .. } => 1,
             Op::Not | Op::JumpUnless(_) | Op::JumpIf(_) | Op::Print => 1,
             Op::Add { .. } | Op::Operate { .. } => 2,
             Op::Join { count, .. } | Op::Call { count, .. } => *count,
@@ -92,7 +99,7 @@ impl Op {
     {
         match self {
             Op::Copy => 2,
-            Op::Push(_) | Op::Load(_) | Op::Count { .. } | Op::Not => 1,
+            Op::Push(_) | Op::Load(_) | Op::Count { .. } | Op::Change { .. } | Op::Not => 1,
             Op::Add { .. } | Op::Operate { .. } | Op::Join { .. } | Op::Call { .. } => 1,
             _ => 0,
         }
@@ -123,6 +130,7 @@ impl Op {
         match self {
             Op::Load(slot) | Op::Store(slot) => Some(*slot),
             Op::Assign { slot, .. } | Op::Count { slot, .. } => Some(*slot),
+            Op::Change { slot, .. } => Some(*slot),
             _ => None,
         }
     }
@@ -165,6 +173,11 @@ impl Op {
             Op::Count { slot, step, line } => Op::Count {
                 slot: *slot,
                 step: *step,
+                line: *line,
+            },
+            Op::Change { slot, how, line } => Op::Change {
+                slot: *slot,
+                how: *how,
                 line: *line,
             },
             Op::Add { line } => Op::Add { line: *line },

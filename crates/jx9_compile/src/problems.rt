@@ -123,6 +123,10 @@ impl Search {
                 self.built(place.steps.is_empty(), e.token, e.line);
                 self.expr(right.get());
             }
+            Node::Change(place, _, right) => {
+                self.built(place.steps.is_empty(), e.token, e.line);
+                self.expr(right.get());
+            }
             _ => self.built(false, e.token, e.line),
         }
     }

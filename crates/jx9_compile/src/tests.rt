@@ -1,4 +1,7 @@
+//! Code by hand: which functions are taken, and which place of the others is blamed.
+
 use crate::*;
+use jx9_syntax::{Binary, Change};
 use std::alloc::Global;
 use std::process::Abort;
 use uq_value::Value;
@@ -43,6 +46,15 @@ fn null() -> Op {
 
 fn unit() -> Op {
     Op::Unit { line: 1 }
+}
+
+/// `*=` on a slot.
+fn doubled(slot: u32) -> Op {
+    Op::Change {
+        slot,
+        how: Change::By(Binary::Multiply),
+        line: 1,
+    }
 }
 
 #[test]
@@ -114,6 +126,10 @@ fn what_is_named_is_there(rt: HostRuntime) {
     );
     let assign = [null(), Op::Assign { slot: 1, line: 1 }, Op::End];
     assert_eq!(rt; bad_place(&rt, alloc, 1, assign), Some(1));
+    assert_eq!(rt;
+        bad_place(&rt, alloc, 1, [null(), doubled(1), Op::End]),
+        Some(1)
+    );
     let step = jx9_syntax::Step::IncrementAfter;
     assert_eq!(rt;
         bad_place(
@@ -161,6 +177,7 @@ fn values_are_there(rt: HostRuntime) {
         bad_place(&rt, alloc, 1, [Op::Assign { slot: 0, line: 1 }, Op::End]),
         Some(0)
     );
+    assert_eq!(rt; bad_place(&rt, alloc, 1, [doubled(0), Op::End]), Some(0));
     assert_eq!(rt;
         bad_place(&rt, alloc, 0, [Op::JumpUnless(1), Op::End]),
         Some(0)
@@ -170,7 +187,7 @@ fn values_are_there(rt: HostRuntime) {
         bad_place(&rt, alloc, 0, [null(), Op::Add { line: 1 }, Op::End]),
         Some(1)
     );
-    let operator = jx9_syntax::Binary::Less;
+    let operator = Binary::Less;
     assert_eq!(rt;
         bad_place(
             &rt,

@@ -2,7 +2,7 @@ use Rattle.std.proofs.Common.{length, refl, ap}
 use Rattle.jx9_syntax.specs.declared.expression.Node as node
 use Rattle.jx9_compile.specs.Emits.{IsExpr}
 use Rattle.jx9_compile.proofs.EmitLemmas.{expr_stable, no_pieces, pieces_go_on}
-use Rattle.jx9_compile.proofs.EmitNodes.{behind_emitted, group_emitted, negate_emitted, not_emitted, or_emitted, and_emitted, join_emitted, chain_emitted, choice_emitted, assign_emitted, unbuilt_emitted, no_links_emitted, links_go_on, no_values_emitted, values_go_on}
+use Rattle.jx9_compile.proofs.EmitNodes.{behind_emitted, group_emitted, negate_emitted, not_emitted, or_emitted, and_emitted, join_emitted, chain_emitted, choice_emitted, assign_emitted, change_emitted, unbuilt_emitted, no_links_emitted, links_go_on, no_values_emitted, values_go_on}
 use Rattle.jx9_compile.proofs.LeftOver.{left_over}
 use Rattle.jx9_compile.proofs.emitting.Emitter.+expr.Goals as goal
 
@@ -56,11 +56,15 @@ pub expr-returns-in_ok-assign-in-Assign : goal.expr-returns-in_ok-assign-in-Assi
 expr-returns-in_ok-assign-in-Assign t c =
     assign_emitted _ _ _ _ _ _ _ _ _ c.in-Assign.is c.get-in-Assign.ensures c.in_ok-put.ensures c.in_ok-expr-in-Assign.ensures c.in_ok-put-in-Assign.ensures c.in_ok-assign-in-Assign.ensures
 
+pub expr-returns-in_ok-change-in-Change : goal.expr-returns-in_ok-change-in-Change
+expr-returns-in_ok-change-in-Change t c =
+    change_emitted _ _ _ _ _ _ _ _ _ c.in-Change.is c.get-in-Change.ensures c.in_ok-put.ensures c.in_ok-expr-in-Change.ensures c.in_ok-change-in-Change.ensures
+
 pub expr-returns-in_default : goal.expr-returns-in_default
 expr-returns-in_default t c =
     unbuilt_emitted _ _ _
     (left_over _ c.in_default.not-Literal c.in_default.not-Mixed c.in_default.not-Var c.in_default.not-Group c.in_default.not-Negate c.in_default.not-Not c.in_default.not-Step c.in_default.not-Or
-    c.in_default.not-And c.in_default.not-Join c.in_default.not-Chain c.in_default.not-Cond c.in_default.not-Assign).0 c.in_ok-put.ensures
+    c.in_default.not-And c.in_default.not-Join c.in_default.not-Chain c.in_default.not-Cond c.in_default.not-Assign c.in_default.not-Change).0 c.in_ok-put.ensures
 
 pub links-loop-link-init : goal.links-loop-link-init
 links-loop-link-init t c = no_links_emitted _ _

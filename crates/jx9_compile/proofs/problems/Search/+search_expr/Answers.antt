@@ -1,5 +1,5 @@
 use Rattle.jx9_compile.proofs.LeftOver.{left_over}
-use Rattle.jx9_compile.proofs.Searches.{no_exprs, exprs_go_on, links_go_on, literal_adds, mixed_adds, variable_adds, group_adds, negate_adds, not_adds, step_adds, or_adds, and_adds, join_adds, chain_adds, choice_adds, assign_adds, unbuilt_adds}
+use Rattle.jx9_compile.proofs.Searches.{no_exprs, exprs_go_on, links_go_on, literal_adds, mixed_adds, variable_adds, group_adds, negate_adds, not_adds, step_adds, or_adds, and_adds, join_adds, chain_adds, choice_adds, assign_adds, change_adds, unbuilt_adds}
 use Rattle.jx9_compile.proofs.problems.Search.+search_expr.Goals as goal
 
 pub expr-returns-in-Literal : goal.expr-returns-in-Literal
@@ -43,11 +43,15 @@ pub expr-returns-in-Assign : goal.expr-returns-in-Assign
 expr-returns-in-Assign t c =
     assign_adds _ _ _ _ _ _ _ _ c.in-Assign.is c.get-in-Assign.ensures c.is_empty-in-Assign.ensures.0 c.is_empty-in-Assign.ensures.1 c.built-in-Assign.ensures c.expr-in-Assign.ensures
 
+pub expr-returns-in-Change : goal.expr-returns-in-Change
+expr-returns-in-Change t c =
+    change_adds _ _ _ _ _ _ _ _ _ c.in-Change.is c.get-in-Change.ensures c.is_empty-in-Change.ensures.0 c.is_empty-in-Change.ensures.1 c.built-in-Change.ensures c.expr-in-Change.ensures
+
 pub expr-returns-in_default : goal.expr-returns-in_default
 expr-returns-in_default t c =
     unbuilt_adds _ _ _
     (left_over _ c.in_default.not-Literal c.in_default.not-Mixed c.in_default.not-Var c.in_default.not-Group c.in_default.not-Negate c.in_default.not-Not c.in_default.not-Step c.in_default.not-Or
-    c.in_default.not-And c.in_default.not-Join c.in_default.not-Chain c.in_default.not-Cond c.in_default.not-Assign) c.built-in_default.ensures
+    c.in_default.not-And c.in_default.not-Join c.in_default.not-Chain c.in_default.not-Cond c.in_default.not-Assign c.in_default.not-Change) c.built-in_default.ensures
 
 pub exprs-loop-e-init : goal.exprs-loop-e-init
 exprs-loop-e-init t c = no_exprs _
