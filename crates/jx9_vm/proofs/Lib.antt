@@ -1,0 +1,14 @@
+pub mod Outcomes
+pub mod LayerLemmas
+pub mod OperatorLemmas
+pub mod WorkLemmas
+pub mod EventLemmas
+pub mod Turns
+pub mod Reaching
+pub mod OpLemmas
+pub mod JumpLemmas
+pub mod CallLemmas
+pub mod PrintLemmas
+pub mod RunLemmas
+pub mod Arms
+pub mod ExecLemmas

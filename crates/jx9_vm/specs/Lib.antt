@@ -1,0 +1,9 @@
+pub mod Layered
+pub mod Operating
+pub mod Events
+pub mod Work
+pub mod Moves
+pub mod Step
+pub mod Exec
+pub mod Untold
+pub mod Laws
