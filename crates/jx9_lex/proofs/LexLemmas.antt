@@ -81,3 +81,15 @@ taken_short (suc n) (b ∷ bs) = let h = taken_short n bs in omega (arith, h)
 pub leads_end : (text : Bytes) (tokens all : List Token) (line : ℕ) (rest : Bytes) → length rest ≡ 0 → all ≡ tokens ++ token_at line kind.End ∷ [] → LeadsOn text tokens line rest → Lexes 1 text all
 leads_end text tokens all line [] n e so_far = subst (λ (ts : List Token). Lexes 1 text ts) (sym e) (so_far.goes (token_at line kind.End ∷ []) at.end)
 leads_end text tokens all line (b ∷ bs) n e so_far = absurd (omega (arith, n))
+
+-- each token takes a byte at least
+pub one_more_counted : (tokens longer : List Token) (line : ℕ) (rest after : Bytes) (k : Option TokenKind) (n : ℕ) → longer ≡ tokens ++ tokens_of line k → length after < length rest
+    → length tokens + length rest ≤ n → length longer + length after ≤ n
+one_more_counted tokens longer line rest after k n e shorter h =
+    let all : length longer ≡ length (tokens ++ tokens_of line k) = ap length e in
+    let one = at_most_one k in
+    omega (arith, all, length-append tokens (tokens_of line k), one, shorter, h)
+  where
+    at_most_one : (k : Option TokenKind) → length (tokens_of line k) ≤ 1
+    at_most_one None = omega arith
+    at_most_one (Some k) = omega arith

@@ -2,6 +2,7 @@
 
 ghost use Rattle.std.specs.Prelude.{◌≡◌, ◌+◌, ◌^◌, ◌<◌, ◌≤◌, ◌++◌, length, IfOk, IfErr, OnOk};
 ghost use Rattle.jx9_syntax.specs.Bytes.{breaks};
+ghost use Rattle.jx9_syntax.specs.Program.{IsTokens};
 ghost use Rattle.jx9_syntax.specs.Tokens.{Lexes};
 ghost use Rattle.jx9_lex.specs.Answer.{IsLexFault, tokens_of, FaultAt};
 ghost use Rattle.jx9_lex.specs.declared.error.LexFault.TheVariants.{Memory};
@@ -13,10 +14,12 @@ use jx9_syntax::{Token, TokenKind, front_is_longest};
 use std::alloc::Global;
 
 /// The tokens of a script, cut off its front, the longest first, and one `End`. It is `Bad` exactly where some byte
-/// begins no token, with the line of the first such byte.
+/// begins no token, with the line of the first such byte. There are fewer tokens than 2^32, and no other one is an `End`.
 pub fn lex(alloc: Global, text: &[u8]) -> Result<Vec<Token>, LexFault>
     requires { length text.now ≤ 2 ^ 24 }
     ensures tokens { IfOk result (λ tokens. Lexes 1 text.now tokens.items) }
+    ensures ended { IfOk result (λ tokens. IsTokens tokens.items) }
+    ensures counted { IfOk result (λ tokens. length tokens.items < 2 ^ 32) }
     ensures fault { IfErr result (IsLexFault text.now) }
 {
     front_is_longest();

@@ -5,6 +5,7 @@ mod builder;
 mod class;
 mod cutting;
 mod error;
+mod laws;
 mod lexer;
 mod numbers;
 mod piece;
@@ -16,4 +17,5 @@ mod tests;
 mod text;
 
 pub use error::LexFault;
+pub use laws::lists_end;
 pub use lexer::lex;

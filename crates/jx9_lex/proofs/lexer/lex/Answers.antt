@@ -2,7 +2,8 @@ use Rattle.std.proofs.Common.{◌≡◌, ◌+◌, ◌-◌, ◌++◌, length, tak
 use Rattle.std.proofs.lemmas.List.{length-append}
 use Rattle.jx9_syntax.specs.Bytes.{breaks}
 use Rattle.std.proofs.lemmas.Bool.{eqb-true, eqb-false}
-use Rattle.jx9_lex.proofs.LexLemmas.{LeadsOn, word_of, leads_further, leads_end, stops_here, taken_is, taken_short}
+use Rattle.jx9_lex.proofs.LexLemmas.{LeadsOn, word_of, leads_further, leads_end, stops_here, taken_is, taken_short, one_more_counted}
+use Rattle.jx9_lex.proofs.Ended.{one_end}
 use Rattle.jx9_lex.proofs.lexer.lex.Goals as goal
 
 pub returns-in-Err-clause-fault : goal.returns-in-Err-clause-fault
@@ -28,8 +29,13 @@ loop-rest-preserved c =
           (leads_further c.args.text.now c.loop-rest.tokens.items c.push.new.tokens.items c.loop-rest.line rest after c.in-Ok.found.0 c.front_is_longest.ensures c.in-Ok.ensures w.0 w.1 c.in_ok-push.ensures.ok c.loop-rest.invariant.leads);
       lines = omega (arith, c.loop-rest.invariant.lines, c.line_feeds-line.ensures.within, long, both, length-append w.0 after);
       within = omega (arith, c.loop-rest.invariant.within, w.2);
+      counted = one_more_counted c.loop-rest.tokens.items c.push.new.tokens.items c.loop-rest.line rest after c.in-Ok.found.0 (length c.args.text.now) c.in_ok-push.ensures.ok w.2 c.loop-rest.invariant.counted;
     }
 
 pub returns-clause-tokens : goal.returns-clause-tokens
 returns-clause-tokens c =
     leads_end c.args.text.now c.loop-rest.tokens.items c.push-2.new.tokens.items c.loop-rest.line c.loop-rest.rest.now (eqb-true (length c.loop-rest.rest.now) 0 (sym c.loop-rest-test.ensures)) c.in_ok-push-2.ensures.ok c.loop-rest.invariant.leads
+
+pub returns-clause-ended : goal.returns-clause-ended
+returns-clause-ended c =
+    one_end (leads_end c.args.text.now c.loop-rest.tokens.items c.push-2.new.tokens.items c.loop-rest.line c.loop-rest.rest.now (eqb-true (length c.loop-rest.rest.now) 0 (sym c.loop-rest-test.ensures)) c.in_ok-push-2.ensures.ok c.loop-rest.invariant.leads)

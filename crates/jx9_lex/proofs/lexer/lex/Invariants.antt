@@ -10,4 +10,5 @@ invariant-loop-rest l = record {
   leads : LeadsOn l.text l.tokens.items l.line l.rest;
   lines : l.line + length l.rest ≤ 1 + length l.text;
   within : length l.rest ≤ length l.text;
+  counted : length l.tokens.items + length l.rest ≤ length l.text;
 }
