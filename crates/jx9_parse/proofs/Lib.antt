@@ -37,3 +37,4 @@ pub mod ItemLoops
 pub mod LambdaLoops
 pub mod Ends
 pub mod Descents
+pub mod Verdicts

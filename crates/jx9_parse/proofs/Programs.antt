@@ -29,7 +29,7 @@ body_more = else_words ++ statement_begins
 pub the_body : Tail Body (else_words ++ statement_begins) statement_begins (reading.items 199)
 the_body = the_items 199 (room 199) (lt-ltb 0 199 (omega arith))
 
-clean_body : (w : Tokens) (m : Making (List Item)) → Body w m → NoEnd w
+pub clean_body : (w : Tokens) (m : Making (List Item)) → Body w m → NoEnd w
 clean_body w m is = clean_many (clean_item 199) w is.value is.is_word
 
 -- ---- lists

@@ -12,3 +12,4 @@ pub mod Levels
 pub mod OneOf
 pub mod Deeper
 pub mod Pieces
+pub mod OneProgram

@@ -8,6 +8,7 @@ mod descent;
 mod error;
 mod expression;
 mod keyword;
+mod law;
 mod number;
 mod operator;
 mod parser;
@@ -26,4 +27,5 @@ mod unary;
 mod within;
 
 pub use error::SyntaxFault;
+pub use law::one_program;
 pub use program::parse;
