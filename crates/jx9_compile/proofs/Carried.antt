@@ -12,7 +12,7 @@ use Rattle.jx9_syntax.specs.declared.statement.Statement.{Statement}
 use Rattle.jx9_compile.specs.Emitted.{Loop, jump_where, operator_op, PartsCode, no_parts, text_part, variable_part, ExprCode, literal_code, mixed_code, variable_code, group_code, negate_code, not_code, step_code, or_code, and_code, join_code, chain_code, choice_code, assign_code, change_code, AllCode, no_values, value_code, DecidingCode, no_operands, operand_code, LinksCode, no_links, link_code, PrintsCode, no_prints, print_code, EffectCode, dropped_code, moved_code, EffectsCode, no_effects, effect_code, TestCode, no_test, test_code, StatementCode, block_code, print_statement, expr_statement, if_code, while_code, for_code, break_code, continue_code, return_code, return_null_code, SequenceCode, no_statements, statement_code, BranchesCode, no_branch, other_branch, branch_code, LoopCode, loop_code}
 use Rattle.jx9_compile.specs.Slots.{KeepsSlots}
 use Rattle.jx9_compile.specs.declared.op.Op.{Op}
-use Rattle.jx9_compile.specs.declared.op.Op.TheVariants.{Add, Jump}
+use Rattle.jx9_compile.specs.declared.op.Op.TheVariants.{Jump}
 
 -- ---- what is put is some ops long
 

@@ -26,3 +26,7 @@ pub mod LeftOver
 pub mod Searches
 pub mod Rules
 pub mod Compiled
+pub mod Order
+pub mod Depths
+pub mod Firsts
+pub mod Outcomes

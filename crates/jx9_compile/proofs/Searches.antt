@@ -1,7 +1,6 @@
 -- What a search adds.
-use Rattle.std.proofs.Common.{◌≡◌, ℕ, zero, suc, ◌+◌, ◌<◌, ◌≤◌, List, [], ◌∷◌, ◌++◌, length, get_or, take, Option, Some, None, refl, sym, ap, ◌∙◌, subst, arith, inl, inr, ⊎_elim, true≢false}
+use Rattle.std.proofs.Common.{◌≡◌, ℕ, zero, suc, ◌+◌, ◌<◌, List, [], ◌∷◌, ◌++◌, length, get_or, take, Option, Some, None, refl, sym, ap, ◌∙◌, subst, arith, inl, inr, ⊎_elim, true≢false}
 use Rattle.std.specs.Prelude.{Bool, true, false, ◌||◌, ◌⊎◌, MatchOption, slice_get}
-use Rattle.std.proofs.lemmas.Bool.{ltb-true, ltb-false}
 use Rattle.std.proofs.lemmas.Option.{none-some, same_Some, slice_get_within}
 use Rattle.uq_value.specs.Data.{Bytes}
 use Rattle.jx9_syntax.specs.Trees.{ExprLayer, StatementLayer, node_of, kind_of}
@@ -23,7 +22,7 @@ use Rattle.jx9_syntax.specs.declared.statement.Kind as kind
 use Rattle.jx9_syntax.specs.declared.statement.Kind.TheOpen.{Kind-F}
 use Rattle.jx9_syntax.specs.declared.statement.Kind.TheViews.{rolls-Block, rolls-Print, rolls-Expr, rolls-If, rolls-While, rolls-For, rolls-Return, rolls-Break, rolls-Continue}
 use Rattle.jx9_syntax.specs.declared.statement.Statement.{Statement}
-use Rattle.jx9_compile.specs.Problems.{problem, are_none, is_built, exprs_within, ExprProblem, itself, within, IsIn, operands_of, IsInLinks, exprs_of, IsInOption, is_built_statement, leaves_turn, is_loop, exprs_in, statements_in, statements_of, tests_of, bodies_of, StatementProblem, unbuilt, outside, in_expr, in_statement, IsInStatements, IsInBranches, IsDefinition, IsProblem, IsProblemOf, IsClean, IsFirst, IsBy, is_before, Adds}
+use Rattle.jx9_compile.specs.Problems.{problem, are_none, is_built, exprs_within, ExprProblem, itself, within, IsIn, operands_of, IsInLinks, exprs_of, IsInOption, is_built_statement, leaves_turn, is_loop, exprs_in, statements_in, statements_of, tests_of, bodies_of, StatementProblem, unbuilt, outside, in_expr, in_statement, IsInStatements, IsInBranches, IsDefinition, IsProblem, IsProblemOf, IsClean, IsFirst, IsBy, precedes, is_before, Adds}
 use Rattle.jx9_compile.specs.declared.error.CompileKind.{CompileKind}
 use Rattle.jx9_compile.specs.declared.error.CompileKind.TheVariants.{NotBuilt, BreakOutside}
 use Rattle.jx9_compile.specs.declared.problems.Problem.{Problem}
@@ -31,18 +30,19 @@ use Rattle.jx9_compile.proofs.EmitLemmas.{one_more}
 use Rattle.jx9_compile.proofs.EmitNodes.{open_node}
 use Rattle.jx9_compile.proofs.EmitStatements.{open_kind}
 use Rattle.jx9_compile.proofs.Clean.{slice_get-into, operands_append, tests_append, bodies_append}
+use Rattle.jx9_compile.proofs.Order.{never_before_itself, still_not_before}
 use Rattle.jx9_compile.proofs.Places.{slice_get-front, slice_get-seam}
 
 -- ---- one search after another
 
 pub adds_nothing : (P : Problem → Type 0) (o : Option Problem) → ((q : Problem) → P q → ⊥) → Adds P o o
-adds_nothing P o fails = record { found = λ q e. inl e; kept = λ token h. h; least = λ q p. absurd (fails q p) }
+adds_nothing P o fails = record { found = λ q e. inl e; kept = λ q h. h; least = λ q p. absurd (fails q p) }
 
 pub adds_then : (P Q : Problem → Type 0) (a b c : Option Problem) → Adds P a b → Adds Q b c → Adds (λ q. P q ⊎ Q q) a c
 adds_then P Q a b c p q = record {
   found = λ r e. ⊎_elim (λ f. ⊎_elim (λ g. inl g) (λ g. inr (inl g)) (p.found r f)) (λ f. inr (inr f)) (q.found r e);
-  kept = λ token h. q.kept token (p.kept token h);
-  least = λ r h. ⊎_elim (λ f. q.kept r.token (p.least r f)) (λ f. q.least r f) h;
+  kept = λ r h. q.kept r (p.kept r h);
+  least = λ r h. ⊎_elim (λ f. q.kept r (p.least r f)) (λ f. q.least r f) h;
 }
 
 pub adds_as : (P Q : Problem → Type 0) (a b : Option Problem) → ((q : Problem) → P q → Q q) → ((q : Problem) → Q q → P q) → Adds P a b → Adds Q a b
@@ -53,29 +53,30 @@ adds_as P Q a b to from p = record {
 }
 
 -- a problem before all that was found
-pub noted : (old : Option Problem) (token line : ℕ) (what : CompileKind) (b : Bool) → b ≡ is_before token old → b ≡ true
+pub noted : (old : Option Problem) (token line : ℕ) (what : CompileKind) (b : Bool) → b ≡ is_before (problem token what line) old → b ≡ true
     → Adds (λ q. q ≡ problem token what line) old (Some (problem token what line))
 noted old token line what b is holds = record {
   found = λ r e. inr (sym (same_Some (problem token what line) r e));
-  kept = λ limit h. earlier old limit (sym is ∙ holds) h;
-  least = λ r e. omega (arith, ap (λ (p : Problem). p.token) e);
+  kept = λ q h. earlier old q (sym is ∙ holds) h;
+  least = λ r e. subst (λ q. precedes q (problem token what line) ≡ false) (sym e) (never_before_itself (problem token what line));
 }
   where
-    earlier : (old : Option Problem) (limit : ℕ) → is_before token old ≡ true → IsBy old limit → token ≤ limit
-    earlier None limit before h = absurd h
-    earlier (Some r) limit before h = omega (arith, ltb-true token r.token before, h)
+    earlier : (old : Option Problem) (q : Problem) → is_before (problem token what line) old ≡ true → IsBy old q → precedes q (problem token what line) ≡ false
+    earlier None q before h = absurd h
+    earlier (Some r) q before h = still_not_before q r (problem token what line) before h
 
 -- or behind it
-pub passed : (old : Option Problem) (token line : ℕ) (what : CompileKind) (b : Bool) → b ≡ is_before token old → b ≡ false → Adds (λ q. q ≡ problem token what line) old old
+pub passed : (old : Option Problem) (token line : ℕ) (what : CompileKind) (b : Bool) → b ≡ is_before (problem token what line) old → b ≡ false
+    → Adds (λ q. q ≡ problem token what line) old old
 passed old token line what b is fails = record {
   found = λ r e. inl e;
-  kept = λ limit h. h;
-  least = λ r e. subst (λ n. IsBy old n) (sym (ap (λ (p : Problem). p.token) e)) (later old (sym is ∙ fails));
+  kept = λ q h. h;
+  least = λ r e. subst (λ q. IsBy old q) (sym e) (later old (sym is ∙ fails));
 }
   where
-    later : (old : Option Problem) → is_before token old ≡ false → IsBy old token
+    later : (old : Option Problem) → is_before (problem token what line) old ≡ false → IsBy old (problem token what line)
     later None before = absurd (true≢false before)
-    later (Some r) before = omega (arith, ltb-false token r.token before)
+    later (Some r) before = before
 
 -- a problem that is one where a test fails
 pub unless_kept : (b : Bool) (x : Problem) (a : Option Problem) → b ≡ true → Adds (λ q. (b ≡ false) × (q ≡ x)) a a

@@ -1,5 +1,5 @@
 -- What keeps a program from being compiled, and which of that comes first in order of text.
-use Rattle.std.specs.Prelude.{◌≡◌, ℕ, ◌≤◌, Bool, true, false, ◌||◌, List, [], ◌∷◌, ◌++◌, map, nat_lt, Option, Some, None, ◌⊎◌, slice_get}
+use Rattle.std.specs.Prelude.{◌≡◌, ℕ, Bool, true, false, ◌||◌, ◌==◌, if◌then◌else◌, List, [], ◌∷◌, ◌++◌, map, nat_lt, Option, Some, None, ◌⊎◌, slice_get}
 use Rattle.jx9_syntax.specs.Trees.{ExprLayer, StatementLayer, node_of, kind_of}
 use Rattle.jx9_syntax.specs.declared.expression.Access.{Access}
 use Rattle.jx9_syntax.specs.declared.expression.Access.TheOpen.{Node-F}
@@ -11,7 +11,7 @@ use Rattle.jx9_syntax.specs.declared.statement.Branch.{Branch}
 use Rattle.jx9_syntax.specs.declared.statement.Kind.TheOpen.{Kind-F}
 use Rattle.jx9_syntax.specs.declared.statement.Statement.{Statement}
 use Rattle.jx9_compile.specs.declared.error.CompileKind.{CompileKind}
-use Rattle.jx9_compile.specs.declared.error.CompileKind.TheVariants.{NotBuilt, BreakOutside}
+use Rattle.jx9_compile.specs.declared.error.CompileKind.TheVariants.{UnknownFunction, DefinedTwice, BreakOutside, NotBuilt}
 use Rattle.jx9_compile.specs.declared.problems.Problem.{Problem}
 
 abbrev pub problem : ℕ → CompileKind → ℕ → Problem
@@ -190,10 +190,23 @@ IsProblem p q = IsProblemOf p.functions p.statements q
 pub record IsClean (p : Program) : Type 0 where
   pub none : (q : Problem) → IsProblem p q → ⊥
 
--- Tokens are numbered in order of text.
+-- The kinds in order, which tells apart two problems at one token.
+abbrev pub rank : CompileKind → ℕ
+rank UnknownFunction = 0
+rank DefinedTwice = 1
+rank BreakOutside = 2
+rank NotBuilt = 3
+
+-- Tokens are numbered in order of text. No text has two problems at one token; in trees by hand the kind decides, then the line.
+abbrev pub precedes : Problem → Problem → Bool
+precedes q r =
+    if q.token == r.token then (if rank q.kind == rank r.kind then nat_lt q.line r.line else nat_lt (rank q.kind) (rank r.kind))
+    else nat_lt q.token r.token
+
+-- no other precedes it
 pub record IsFirst (p : Program) (q : Problem) : Type 0 where
   pub found : IsProblem p q
-  pub first : (other : Problem) → IsProblem p other → q.token ≤ other.token
+  pub first : (other : Problem) → IsProblem p other → precedes other q ≡ false
 
 -- ---- the same of parts
 
@@ -211,18 +224,18 @@ pub record AreCleanStatements (looped : Bool) (ts : List Statement) : Type 0 whe
 
 -- ---- the search for the first
 
--- a problem at this token or before it
-abbrev pub IsBy : Option Problem → ℕ → Type 0
-IsBy None token = ⊥
-IsBy (Some q) token = q.token ≤ token
+-- this problem, or one before it
+abbrev pub IsBy : Option Problem → Problem → Type 0
+IsBy None q = ⊥
+IsBy (Some r) q = precedes q r ≡ false
 
--- whether this token stands before the problem that is kept
-abbrev pub is_before : ℕ → Option Problem → Bool
-is_before token None = true
-is_before token (Some q) = nat_lt token q.token
+-- whether a problem stands before the one that is kept
+abbrev pub is_before : Problem → Option Problem → Bool
+is_before q None = true
+is_before q (Some r) = precedes q r
 
 -- the first of what was found before and of these
 pub record Adds (P : Problem → Type 0) (old new : Option Problem) : Type 0 where
   pub found : (q : Problem) → new ≡ Some q → (old ≡ Some q) ⊎ P q
-  pub kept : (token : ℕ) → IsBy old token → IsBy new token
-  pub least : (q : Problem) → P q → IsBy new q.token
+  pub kept : (q : Problem) → IsBy old q → IsBy new q
+  pub least : (q : Problem) → P q → IsBy new q

@@ -1,6 +1,7 @@
-//! Laws of what code does and worked codes, each the contract of a call that does nothing.
+//! Laws of programs and of what code does, and worked codes, each the contract of a call that does nothing.
 
-ghost use Rattle.jx9_compile.specs.Laws.{EndsAlways, EndsOnce};
+ghost use Rattle.jx9_syntax.specs.declared.program.Program.{Program};
+ghost use Rattle.jx9_compile.specs.Laws.{EndsAlways, EndsOnce, HasOneOutcome};
 ghost use Rattle.jx9_compile.specs.Rows.{CodeRows};
 
 use crate::code::Code;
@@ -14,6 +15,11 @@ pub fn code_ends_once(code: &Code)
 /// 256 deep.
 pub fn every_code_ends(code: &Code)
     ensures { EndsAlways code.now }
+{}
+
+/// A program is clean, or it has one first problem, and not both.
+pub fn one_outcome()
+    ensures { (p : Program) → HasOneOutcome p }
 {}
 
 /// Codes by hand: what they put out, how they end, and the units that are left.

@@ -23,5 +23,5 @@ pub use code::Code;
 pub use compiling::compile;
 pub use error::{CodeFault, CompileFault, CompileKind};
 pub use function::Function;
-pub use laws::{code_ends_once, code_rows, every_code_ends};
+pub use laws::{code_ends_once, code_rows, every_code_ends, one_outcome};
 pub use op::Op;

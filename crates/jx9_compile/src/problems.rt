@@ -1,7 +1,7 @@
 //! What keeps a program from being compiled, and which of that comes first in order of text.
 
 ghost use Rattle.std.specs.Prelude.{◌≡◌, MatchOption, false};
-ghost use Rattle.jx9_compile.specs.Problems.{Adds, ExprProblem, IsClean, IsDefinition, IsFirst, IsIn, IsInBranches, IsInLinks, IsInOption, IsInStatements, IsProblemOf, StatementProblem, is_before as spec_is_before, problem};
+ghost use Rattle.jx9_compile.specs.Problems.{Adds, ExprProblem, IsClean, IsDefinition, IsFirst, IsIn, IsInBranches, IsInLinks, IsInOption, IsInStatements, IsProblemOf, StatementProblem, is_before as spec_is_before, precedes as spec_precedes, problem, rank as spec_rank};
 ghost use Rattle.jx9_compile.specs.declared.error.CompileKind.TheVariants.{NotBuilt, BreakOutside};
 
 use crate::error::CompileKind;
@@ -14,6 +14,34 @@ pub(crate) struct Problem {
     pub(crate) token: u32,
     pub(crate) kind: CompileKind,
     pub(crate) line: u32,
+}
+
+impl Problem {
+    /// Whether it comes before another one in order of text. Two at one token, which no text has, are told apart by their
+    /// kinds, and two of one kind by their lines.
+    fn precedes(&self, other: &Problem) -> bool
+        ensures { result ≡ spec_precedes self.now other.now }
+    {
+        if self.token != other.token {
+            return self.token < other.token;
+        }
+        if rank(self.kind) != rank(other.kind) {
+            return rank(self.kind) < rank(other.kind);
+        }
+        self.line < other.line
+    }
+}
+
+/// The kind's place among the kinds.
+fn rank(kind: CompileKind) -> u8
+    ensures { result ≡ spec_rank kind }
+{
+    match kind {
+        CompileKind::UnknownFunction => 0,
+        CompileKind::DefinedTwice => 1,
+        CompileKind::BreakOutside => 2,
+        CompileKind::NotBuilt => 3,
+    }
 }
 
 /// The program's first problem in order of text, None where it has none.
@@ -40,12 +68,12 @@ struct Search {
 }
 
 impl Search {
-    /// Whether a tree with this first token stands before the problem that is kept.
-    fn is_before(&self, token: u32) -> bool
-        ensures { result ≡ spec_is_before token self.now.first }
+    /// Whether a problem stands before the one that is kept.
+    fn is_before(&self, problem: &Problem) -> bool
+        ensures { result ≡ spec_is_before problem.now self.now.first }
     {
-        match self.first {
-            Some(known) => token < known.token,
+        match &self.first {
+            Some(known) => problem.precedes(known),
             None => true,
         }
     }
@@ -54,10 +82,11 @@ impl Search {
     fn note(&mut self, token: u32, kind: CompileKind, line: u32)
         ensures { Adds (λ q. q ≡ problem token kind line) self.old.first self.new.first }
     {
-        if !self.is_before(token) {
+        let problem = Problem { token, kind, line };
+        if !self.is_before(&problem) {
             return;
         }
-        self.first = Some(Problem { token, kind, line });
+        self.first = Some(problem);
     }
 
     /// Notes a tree that is not built.
