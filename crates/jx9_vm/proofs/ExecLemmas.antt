@@ -169,6 +169,8 @@ module _ (code : Code) (budget : ℕ) (start_work : Work) (is : IsFirst code bud
     under_way = halted.under_way;
     one = halted.one;
     bytes = halted.bytes;
+    at_sink = halted.at_sink;
+    at_other = halted.at_other;
     stays = stays_itself base;
     closed = closed_still cause base.closed halted.not_base;
     metered = (budget - work.units, omega arith, raised);
@@ -196,6 +198,8 @@ module _ (code : Code) (budget : ℕ) (start_work : Work) (is : IsFirst code bud
     under_way = [];
     one = omega arith;
     bytes = (0, grows_no_more (bytes_of at.made) [] w w' at.bytes);
+    at_sink = λ h. absurd (let x : ⊥ = cc in x);
+    at_other = λ h. at.bytes;
     stays = settles.stays;
     closed = settles.closes;
     metered = (budget - work.units, omega arith, raised);
@@ -224,6 +228,8 @@ exec_unstarted code budget base w f old new ends raised latest saved counts = re
   under_way = [];
   one = omega arith;
   bytes = (0, grows_not w);
+  at_sink = λ h. absurd (let x : ⊥ = cc in x);
+  at_other = λ h. grows_not w;
   stays = stays_itself base;
   closed = refl;
   metered = (0, omega arith, raised);

@@ -95,6 +95,8 @@ module _ (code : Code) (old : Work) where
     under_way = Out text ∷ [];
     one = omega arith;
     bytes = (misses.front.0, subst (λ b. Grows (take misses.front.0 b) w w') (sym (nothing_more text)) misses.front.1);
+    at_sink = λ h. (text, refl);
+    still = misses.still;
     next = λ t e is same. (
       printed t,
       (0, λ k. ap (λ n. act code (run code n) (Some Print) (machine_of old t)) (zero_more k) ∙ prints_to (run code k) t misses.room same),
@@ -134,6 +136,7 @@ missed_by bytes old mid new w w' f f' (Err cause) is popped misses = record {
   events = misses.events ∙ popped.events;
   last = misses.last ∙ popped.last;
   front = (misses.front.0, subst (λ b. Grows (take misses.front.0 b) w w') is misses.front.1);
+  still = misses.still;
   later = misses.later;
   sink = misses.sink;
   quiet = misses.quiet;
@@ -150,6 +153,8 @@ memory_fails code op old new w f cause unmade = record {
   under_way = [];
   one = omega arith;
   bytes = (0, grows_not w);
+  at_sink = λ h. absurd (memory_alone (sym unmade.memory ∙ h));
+  still = λ h. refl;
   next = λ t e nothing same. absurd (let x : ⊥ = cc in x);
   later = omega arith;
   sink = λ h. absurd (memory_alone (sym unmade.memory ∙ h));

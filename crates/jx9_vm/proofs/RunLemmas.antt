@@ -63,6 +63,8 @@ module _ (code : Code) where
     under_way = fails.under_way;
     one = fails.one;
     bytes = fails.bytes;
+    at_sink = fails.at_sink;
+    still = fails.still;
     next = λ t e is same. let n = fails.next t e is same in (n.0, reaches op Next old t n.0 there n.1, n.2);
     later = fails.later;
     sink = fails.sink;
@@ -165,6 +167,8 @@ module _ (code : Code) where
     under_way = fails.under_way;
     one = fails.one;
     bytes = (fails.bytes.0, grows_on (bytes_of at.made) (take fails.bytes.0 (bytes_of fails.under_way)) w w' w'' at.bytes fails.bytes.1);
+    at_sink = fails.at_sink;
+    at_other = λ h. subst (λ v. Grows (bytes_of at.made) w v) (sym (fails.still h)) at.bytes;
     front = λ t e n ends. front_of first work at.made fails.under_way t e n fails.one (at.reaches t) (λ x is. fails.next (having at.made t) x is at.events) ends;
     later = omega (arith, fails.later, calm);
     sink = λ h. let r = fails.sink h in omega (arith, r, calm);

@@ -22,7 +22,7 @@ use Rattle.jx9_vm.specs.declared.stop.Stop.{Stop}
 use Rattle.jx9_vm.specs.declared.stop.StopCause.{StopCause}
 use Rattle.jx9_vm.specs.declared.stop.StopCause.TheVariants.{Base, Sink, Memory}
 use Rattle.jx9_vm.specs.Events.{bytes_of, last_in}
-use Rattle.jx9_vm.specs.Step.{IsFront, meant}
+use Rattle.jx9_vm.specs.Step.{IsFront, IsOneOut, meant}
 
 -- the world of a script over a base that tells this session, with this budget
 abbrev pub world_over : Shown → Session Store → ℕ → World
@@ -112,6 +112,10 @@ pub record Stopped (code : Code) (budget : ℕ) (base now : Shown) (written writ
   pub under_way : List Event
   pub one : length under_way ≤ 1
   pub bytes : (n : ℕ) × Grows (bytes_of events ++ take n (bytes_of under_way)) written written'
+  -- which was a text, where the sink failed
+  pub at_sink : stop.cause ≡ Sink → IsOneOut under_way
+  -- and else none of its bytes were
+  pub at_other : (stop.cause ≡ Sink → ⊥) → Grows (bytes_of events) written written'
   pub stays : Stays base now
   pub closed : now.closed ≡ closed_after stop.cause base.closed
   pub metered : IsMetered budget meter meter'

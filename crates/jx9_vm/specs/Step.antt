@@ -9,7 +9,7 @@ use Rattle.uq_model.specs.Store.{Store}
 use Rattle.jx9_meaning.specs.Laws.{last_saved}
 use Rattle.jx9_meaning.specs.Meaning as meaning
 use Rattle.jx9_meaning.specs.Script.{Ended, ended}
-use Rattle.jx9_meaning.specs.World.{State, Event}
+use Rattle.jx9_meaning.specs.World.{State, Event, Out}
 use Rattle.jx9_compile.specs.Machine.{Machine, below, top}
 use Rattle.jx9_compile.specs.Run.{Result', act, run}
 use Rattle.jx9_compile.specs.declared.code.Code.{Code}
@@ -66,13 +66,14 @@ pub data Prints (flow : Flow) (old new : Work) (written written' : Option Bytes)
   puts_out : (bytes : Bytes) → IsPrinted bytes flow old new → Grows bytes written written' → Prints flow old new written written'
   is_full : old.events ≡ 2 ^ 64 - 1 → Quits Spent flow old new → written' ≡ written → Prints flow old new written written'
 
--- no event was made, and so much of these bytes was put out
+-- no event was made, and so much of these bytes was put out, nothing unless the sink failed
 pub record Misses (bytes : Bytes) (old new : Work) (written written' : Option Bytes) (faults faults' : ℕ) (cause : StopCause) : Type 0 where
   pub room : old.events < 2 ^ 64 - 1
   pub units : new.units ≤ old.units
   pub events : new.events ≡ old.events
   pub last : new.last ≡ old.last
   pub front : (n : ℕ) × Grows (take n bytes) written written'
+  pub still : (cause ≡ Sink → ⊥) → written' ≡ written
   pub later : faults ≤ faults'
   pub sink : cause ≡ Sink → Rose faults faults'
   pub quiet : (cause ≡ Sink → ⊥) → faults' ≡ faults
@@ -111,7 +112,12 @@ pub record Did (code : Code) (Leads : Flow → Machine → Machine → Type 0) (
 abbrev pub DoesSome : Code → (Flow → Machine → Machine → Type 0) → Flow → Work → Work → Option Bytes → Option Bytes → Type 0
 DoesSome code Leads flow old new written written' = (made : List Event) × Did code Leads made flow old new written written'
 
--- A step was stopped. It made no event; at most one was under way, some bytes of which may have been put out.
+-- one event, which puts out a text
+abbrev pub IsOneOut : List Event → Type 0
+IsOneOut events = (text : Bytes) × (events ≡ Out text ∷ [])
+
+-- A step was stopped. It made no event; at most one was under way, some bytes of which may have been put out. Where the
+-- sink failed that was a text, and else nothing was put out.
 pub record Fails (Leads : Flow → Machine → Machine → Type 0) (old new : Work) (written written' : Option Bytes) (faults faults' : ℕ)
     (cause : StopCause) : Type 0 where
   pub units : new.units ≤ old.units
@@ -120,6 +126,8 @@ pub record Fails (Leads : Flow → Machine → Machine → Type 0) (old new : Wo
   pub under_way : List Event
   pub one : length under_way ≤ 1
   pub bytes : (n : ℕ) × Grows (take n (bytes_of under_way)) written written'
+  pub at_sink : cause ≡ Sink → IsOneOut under_way
+  pub still : (cause ≡ Sink → ⊥) → written' ≡ written
   pub next : (t : State) (e : Event) → under_way ≡ e ∷ [] → old.events ≡ length t.events
       → (m : Machine) × Leads Next (machine_of old t) m × (m.outside.events ≡ t.events ++ e ∷ [])
   pub later : faults ≤ faults'
@@ -152,6 +160,8 @@ pub record Halted (code : Code) (first work : Work) (written written' : Option B
   pub under_way : List Event
   pub one : length under_way ≤ 1
   pub bytes : (n : ℕ) × Grows (bytes_of made ++ take n (bytes_of under_way)) written written'
+  pub at_sink : cause ≡ Sink → IsOneOut under_way
+  pub at_other : (cause ≡ Sink → ⊥) → Grows (bytes_of made) written written'
   pub front : (t : State) (e : Ended) (n : ℕ) → run code n (machine_of first (having [] t)) ≡ Some e → IsFront (made ++ under_way) e.events
   pub later : faults ≤ faults'
   pub sink : cause ≡ Sink → Rose faults faults'

@@ -29,7 +29,8 @@ const FIRST_ROOM: usize = 256;
 /// `Done` has rolled back what was not committed.
 ///
 /// A script is stopped where the sink fails, where a call on the base has no answer, or where memory is wanting. The
-/// events so far are then the first of that run, and of the next one a front of its bytes may have been put out.
+/// events so far are then the first of that run. Where the sink failed the next one is a text, and a front of it may have
+/// been put out.
 pub fn exec<B: Base, O: Sink>(
     alloc: Global,
     code: &Code,

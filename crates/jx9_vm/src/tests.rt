@@ -1,3 +1,5 @@
+//! Hand-written code, run over a base and a sink in memory.
+
 mod failing_base;
 
 use crate::*;
@@ -6,7 +8,9 @@ use jx9_compile::{Code, Function, Op};
 use jx9_meaning::FaultKind;
 use jx9_syntax::{Binary, Change, Step};
 use std::alloc::Global;
+use std::fs;
 use std::process::Abort;
+use std::rt::Files;
 use uq_model::{Base, BaseStop, Cause, Done, Limits, MOST_BYTES, MOST_ENTRIES, MapBase};
 use uq_outside::MemSink;
 use uq_value::{Text, Value};
@@ -571,4 +575,55 @@ fn a_base_that_fails_stops_the_script(rt: HostRuntime) {
             }
         }
     }
+}
+
+/// How much memory the process holds, in pages of 4096 bytes.
+fn pages_held(rt: &(impl Files + AllocGlobal + Abort)) -> u64 {
+    let text = fs::read_to_string(rt, "/proc/self/statm").expect(rt, "the process's sizes");
+    let (all, _) = text.as_str().split_once(' ').expect(rt, "the first size");
+    all.parse::<u64>().expect(rt, "a number")
+}
+
+#[test]
+fn values_are_released_when_the_call_returns(rt: HostRuntime) {
+    let alloc = rt.alloc();
+    // a variable, an argument and the callee's stack hold 64 KiB each
+    let long = vec![in alloc; b'x'; 1 << 16].expect(&rt, "a long text");
+    let main = [
+        text(&rt, alloc, long.as_slice()),
+        Op::Store(0),
+        text(&rt, alloc, long.as_slice()),
+        Op::Call {
+            function: 1,
+            count: 1,
+            line: 1,
+        },
+        Op::End,
+    ];
+    let called = [unit(), Op::Load(0), Op::Load(0), unit(), Op::End];
+    let code = code_of_two(
+        &rt,
+        alloc,
+        function(&rt, alloc, 0, 1, main),
+        function(&rt, alloc, 1, 1, called),
+    );
+    let endings = [Ending::Spent, Ending::Spent, Ending::Done];
+    let before = pages_held(&rt);
+    for turn in 0..300usize {
+        let budget = turn % 3;
+        let mut out = MemSink::new(alloc, &[]).expect(&rt, "a sink");
+        let mut meter = Meter::new();
+        let ran = exec(
+            alloc,
+            &code,
+            &mut base(alloc),
+            &mut out,
+            budget as u64,
+            &mut meter,
+        )
+        .expect(&rt, "an ending");
+        assert!(rt; is_same(&ran.ending, &endings[budget]));
+    }
+    // 8 MiB, where each of 300 calls that kept one of these texts would hold 18
+    assert!(rt; pages_held(&rt).saturating_sub(before) < 2048);
 }
