@@ -7,8 +7,8 @@ use Rattle.std.specs.Prelude.{slice_range}
 use Rattle.uq_outside.specs.Stops.{Told}
 use Rattle.uq_outside.specs.declared.source.Source.{Ghosts}
 use Rattle.uq_value.specs.Data.{Bytes}
-use Rattle.uq_words.specs.Lines.{HasNoFeed, IsLast, IsLine, IsPart, is_feed, kept, longest}
-use Rattle.uq_words.specs.Taking.{Cuts, Fills, Finds, Passing, left_of, most_of, pending, text_of}
+use Rattle.uq_words.specs.Lines.{HasNoFeed, IsLastWithin, IsLineWithin, IsPart, is_feed, kept_within}
+use Rattle.uq_words.specs.Taking.{Cuts, Fills, FindsWithin, Passing, left_of, most_of, pending, text_of}
 use Rattle.uq_words.specs.declared.error.InputFault.{InputFault}
 use Rattle.uq_words.specs.declared.lines.Lines.{Lines}
 use Rattle.uq_words.specs.declared.lines.Step.{Step}
@@ -27,16 +27,16 @@ end_is bytes next searched count within none is =
     omega arith
 
 -- the bytes up to the end are a front of what is behind the line
-front_is : (bytes : Bytes) (next end : ℕ) → end ≡ next + position_or_len is_feed (drop next bytes) → slice_range bytes next end ≡ take (position_or_len is_feed (drop next bytes)) (drop next bytes)
+pub front_is : (bytes : Bytes) (next end : ℕ) → end ≡ next + position_or_len is_feed (drop next bytes) → slice_range bytes next end ≡ take (position_or_len is_feed (drop next bytes)) (drop next bytes)
 front_is bytes next end is = ap (λ (n : ℕ). take n (drop next bytes)) (let count : end - next ≡ position_or_len is_feed (drop next bytes) = omega arith in count)
 
 -- and what is behind the line feed is the rest of it
-rest_is : (bytes : Bytes) (next end : ℕ) → end ≡ next + position_or_len is_feed (drop next bytes) → drop (end + 1) bytes ≡ drop (position_or_len is_feed (drop next bytes) + 1) (drop next bytes)
+pub rest_is : (bytes : Bytes) (next end : ℕ) → end ≡ next + position_or_len is_feed (drop next bytes) → drop (end + 1) bytes ≡ drop (position_or_len is_feed (drop next bytes) + 1) (drop next bytes)
 rest_is bytes next end is =
     ap (λ (n : ℕ). drop n bytes) (let count : end + 1 ≡ next + (position_or_len is_feed (drop next bytes) + 1) = omega arith in count)
     ∙ sym (drop-drop (position_or_len is_feed (drop next bytes) + 1) next bytes)
 
-empty : (w : Bytes) → length w ≡ 0 → w ≡ []
+pub empty : (w : Bytes) → length w ≡ 0 → w ≡ []
 empty [] none = refl
 empty (c ∷ cs) none = absurd (omega (arith, none))
 
@@ -52,17 +52,17 @@ no_feed_left it end is past =
     let rest = it.rest in
     none_within (pending it) (omega arith)
 
-module _ {I : Type 0} (i : Ghosts I) where
+module _ {I : Type 0} (i : Ghosts I) (limit : ℕ) where
   -- what is found from there on is found from the start
-  pub found_since : (result : Result Step InputFault) (left since : Option Bytes) (most count : ℕ) (new : Lines) (in_new : I) → left ≡ since → most ≡ count → Finds i result left most new in_new
-      → Finds i result since count new in_new
+  pub found_since : (result : Result Step InputFault) (left since : Option Bytes) (most count : ℕ) (new : Lines) (in_new : I) → left ≡ since → most ≡ count → FindsWithin i limit result left most new in_new
+      → FindsWithin i limit result since count new in_new
   found_since result left since most count new in_new same_left same_most found =
-      subst (λ (l : Option Bytes). Finds i result l count new in_new) same_left (subst (λ (n : ℕ). Finds i result left n new in_new) same_most found)
+      subst (λ (l : Option Bytes). FindsWithin i limit result l count new in_new) same_left (subst (λ (n : ℕ). FindsWithin i limit result left n new in_new) same_most found)
 
   -- ---- a line
 
-  pub cuts_line : (it new : Lines) (input : I) (end : ℕ) → end ≡ it.next + position_or_len is_feed (pending it) → end < length it.bytes.items → Cuts end (end + 1) it new
-      → Finds i (Ok Line) (left_of i it input) (most_of it) new input
+  pub cuts_line : (it new : Lines) (input : I) (end : ℕ) → end ≡ it.next + position_or_len is_feed (pending it) → end < length it.bytes.items → Cuts limit end (end + 1) it new
+      → FindsWithin i limit (Ok Line) (left_of i it input) (most_of it) new input
   cuts_line it new input end is within cuts =
       let rest = it.rest in
       let count : length (pending it) ≡ length it.bytes.items - it.next = length-drop it.next it.bytes.items in
@@ -73,13 +73,13 @@ module _ {I : Type 0} (i : Ghosts I) where
       = split_at_feed (pending it) (position_or_len is_feed (pending it)) refl inside
       ∙ ap (λ (w : Bytes). take (position_or_len is_feed (pending it)) (pending it) ++ 0x0a ∷ w) (sym behind) in
       let room = cuts.room in
-      found_line (most_of it) it.room (pending it) refl (i.left input) (take (position_or_len is_feed (pending it)) (pending it)) (pending new) (text_of new) (most_of new) split
-      (none_before (pending it)) (cuts.text ∙ ap kept (front_is it.bytes.items it.next end is)) (ap (λ (n : ℕ). length (pending new) + n) room)
+      found_line limit (most_of it) it.room (pending it) refl (i.left input) (take (position_or_len is_feed (pending it)) (pending it)) (pending new) (text_of new) (most_of new) split
+      (none_before (pending it)) (cuts.text ∙ ap (kept_within limit) (front_is it.bytes.items it.next end is)) (ap (λ (n : ℕ). length (pending new) + n) room)
 
   -- ---- the last line
 
   pub cuts_last : (it full new : Lines) (in_old in_new : I) (count end : ℕ) → HasNoFeed (pending it) → 0 < it.room → count ≡ 0 → Fills i (Ok count) it in_old full in_new → end ≡ length full.bytes.items
-      → Cuts end end full new → Finds i (Ok Last) (left_of i it in_old) (most_of it) new in_new
+      → Cuts limit end end full new → FindsWithin i limit (Ok Last) (left_of i it in_old) (most_of it) new in_new
   cuts_last it full new in_old in_new count end none some no_more fills is cuts =
       let no_piece : length fills.piece ≡ 0 = fills.taken_count ∙ no_more in
       let nothing : fills.piece ≡ [] = empty fills.piece no_piece in
@@ -89,10 +89,10 @@ module _ {I : Type 0} (i : Ghosts I) where
       = ap (λ (n : ℕ). take (end - n) (drop n full.bytes.items)) fills.begins ∙ take_all (end - 0) full.bytes.items (omega arith) ∙ whole ∙ same in
       let behind : pending new ≡ []
       = ap (λ (w : Bytes). drop new.next w) cuts.bytes ∙ ap (λ (n : ℕ). drop n full.bytes.items) (cuts.begins ∙ is) ∙ all_dropped full.bytes.items in
-      let found = found_last (most_of it) it.room (pending it) refl (i.left in_new) (text_of new) (fills.at_end no_more) some none (cuts.text ∙ ap kept raw) in
-      subst (λ (left : Option Bytes). Finds i (Ok Last) left (most_of it) new in_new) fills.left
-      (subst (λ (w : Bytes). Finds i (Ok Last) (before w (i.left in_new)) (most_of it) new in_new) (sym same)
-      (subst (λ (w : Bytes). Told (λ (input later : Bytes). IsLast (most_of it) input (text_of new) × (later ≡ [])) (before (pending it) (i.left in_new)) (before w (i.left in_new))) (sym behind) found))
+      let found = found_last limit (most_of it) it.room (pending it) refl (i.left in_new) (text_of new) (fills.at_end no_more) some none (cuts.text ∙ ap (kept_within limit) raw) in
+      subst (λ (left : Option Bytes). FindsWithin i limit (Ok Last) left (most_of it) new in_new) fills.left
+      (subst (λ (w : Bytes). FindsWithin i limit (Ok Last) (before w (i.left in_new)) (most_of it) new in_new) (sym same)
+      (subst (λ (w : Bytes). Told (λ (input later : Bytes). IsLastWithin limit (most_of it) input (text_of new) × (later ≡ [])) (before (pending it) (i.left in_new)) (before w (i.left in_new))) (sym behind) found))
     where
       all_dropped : (w : Bytes) → drop (length w) w ≡ []
       all_dropped [] = refl
@@ -100,10 +100,10 @@ module _ {I : Type 0} (i : Ghosts I) where
 
   -- ---- no more may be taken, and a fault
 
-  pub stops_full : (it : Lines) (input : I) → HasNoFeed (pending it) → it.room ≡ 0 → Finds i (Ok TooMuch) (left_of i it input) (most_of it) it input
-  stops_full it input none full = found_too_much (most_of it) it.room (pending it) refl (i.left input) full none
+  pub stops_full : (it : Lines) (input : I) → HasNoFeed (pending it) → it.room ≡ 0 → FindsWithin i limit (Ok TooMuch) (left_of i it input) (most_of it) it input
+  stops_full it input none full = found_too_much limit (most_of it) it.room (pending it) refl (i.left input) full none
 
-  pub stops_at : (it new : Lines) (in_old in_new : I) (fault : InputFault) → HasNoFeed (pending it) → Fills i (Err fault) it in_old new in_new → Finds i (Err fault) (left_of i it in_old) (most_of it) new in_new
+  pub stops_at : (it new : Lines) (in_old in_new : I) (fault : InputFault) → HasNoFeed (pending it) → Fills i (Err fault) it in_old new in_new → FindsWithin i limit (Err fault) (left_of i it in_old) (most_of it) new in_new
   stops_at it new in_old in_new fault none fills =
       let same : pending new ≡ pending it = fills.pending ∙ ap (λ (w : Bytes). pending it ++ w) fills.none ∙ append-nil (pending it) in
       subst (λ (left : Option Bytes). Told IsPart left (i.left in_new)) fills.left
@@ -141,11 +141,11 @@ module _ {I : Type 0} (i : Ghosts I) where
 
   -- ---- a line that is too long
 
-  pub passing_here : (it : Lines) (input : I) → HasNoFeed (pending it) → longest + 1 < length (pending it) → Passing i it input it input
+  pub passing_here : (it : Lines) (input : I) → HasNoFeed (pending it) → limit + 1 < length (pending it) → Passing i limit it input it input
   passing_here it input none long = record { part = pending it; no_feed = none; long = long; left = refl; count = refl }
 
-  module _ (old mid : Lines) (in_old in_mid : I) (passing : Passing i old in_old mid in_mid) where
-    pub passing_still : (new : Lines) → new.room ≡ mid.room → Passing i old in_old new in_mid
+  module _ (old mid : Lines) (in_old in_mid : I) (passing : Passing i limit old in_old mid in_mid) where
+    pub passing_still : (new : Lines) → new.room ≡ mid.room → Passing i limit old in_old new in_mid
     passing_still new same = record {
       part = passing.part;
       no_feed = passing.no_feed;
@@ -154,10 +154,10 @@ module _ {I : Type 0} (i : Ghosts I) where
       count = let count = passing.count in omega arith;
     }
 
-    pub passes_full : (new : Lines) → mid.room ≡ 0 → Finds i (Ok TooMuch) (left_of i old in_old) (most_of old) new in_mid
+    pub passes_full : (new : Lines) → mid.room ≡ 0 → FindsWithin i limit (Ok TooMuch) (left_of i old in_old) (most_of old) new in_mid
     passes_full new full =
-        subst (λ (left : Option Bytes). Finds i (Ok TooMuch) left (most_of old) new in_mid) (sym passing.left)
-        (found_too_much (most_of old) mid.room passing.part passing.count (i.left in_mid) full passing.no_feed)
+        subst (λ (left : Option Bytes). FindsWithin i limit (Ok TooMuch) left (most_of old) new in_mid) (sym passing.left)
+        (found_too_much limit (most_of old) mid.room passing.part passing.count (i.left in_mid) full passing.no_feed)
 
     module _ (none : pending mid ≡ []) where
       module _ (full : Lines) (in_new : I) (count : ℕ) (fills : Fills i (Ok count) mid in_mid full in_new) where
@@ -180,7 +180,7 @@ module _ {I : Type 0} (i : Ghosts I) where
             omega arith
 
         -- the piece has no line feed
-        pub passing_on : HasNoFeed (pending full) → Passing i old in_old full in_new
+        pub passing_on : HasNoFeed (pending full) → Passing i limit old in_old full in_new
         passing_on no_feed =
             let both : length (passing.part ++ fills.piece) ≡ length passing.part + length fills.piece = length-append passing.part fills.piece in
             let long = passing.long in
@@ -194,7 +194,7 @@ module _ {I : Type 0} (i : Ghosts I) where
 
         -- it has one, at this place
         pub passes_line : (end : ℕ) (text : Option Bytes) → end ≡ full.next + position_or_len is_feed (pending full) → end < length full.bytes.items → text ≡ None
-            → Told (λ (input later : Bytes). IsLine (most_of old) input text (length (drop (end + 1) full.bytes.items) + full.room) later) (left_of i old in_old)
+            → Told (λ (input later : Bytes). IsLineWithin limit (most_of old) input text (length (drop (end + 1) full.bytes.items) + full.room) later) (left_of i old in_old)
             (before (drop (end + 1) full.bytes.items) (i.left in_new))
         passes_line end text is within none_kept =
             let begins = fills.begins in
@@ -210,16 +210,16 @@ module _ {I : Type 0} (i : Ghosts I) where
             ≡ length passing.part + length (take (position_or_len is_feed (pending full)) (pending full))
             = length-append passing.part (take (position_or_len is_feed (pending full)) (pending full)) in
             let long = passing.long in
-            subst (λ (left : Option Bytes). Told (λ (input later : Bytes). IsLine (most_of old) input text (length (drop (end + 1) full.bytes.items) + full.room) later) left
+            subst (λ (left : Option Bytes). Told (λ (input later : Bytes). IsLineWithin limit (most_of old) input text (length (drop (end + 1) full.bytes.items) + full.room) later) left
             (before (drop (end + 1) full.bytes.items) (i.left in_new))) (sym left_on)
-            (found_line (most_of old) full.room (passing.part ++ fills.piece) count_on (i.left in_new) (passing.part ++ take (position_or_len is_feed (pending full)) (pending full))
+            (found_line limit (most_of old) full.room (passing.part ++ fills.piece) count_on (i.left in_new) (passing.part ++ take (position_or_len is_feed (pending full)) (pending full))
             (drop (end + 1) full.bytes.items) text (length (drop (end + 1) full.bytes.items) + full.room) whole
             (All-append (λ c. is_feed c ≡ false) passing.part (take (position_or_len is_feed (pending full)) (pending full)) passing.no_feed (none_before (pending full)))
-            (none_kept ∙ sym (kept_none (passing.part ++ take (position_or_len is_feed (pending full)) (pending full)) (omega arith)))
+            (none_kept ∙ sym (kept_none limit (passing.part ++ take (position_or_len is_feed (pending full)) (pending full)) (omega arith)))
             refl)
 
       pub passes_last : (full : Lines) (in_new : I) (count : ℕ) → Fills i (Ok count) mid in_mid full in_new → count ≡ 0 → 0 < mid.room → mid.kept ≡ false
-          → Finds i (Ok Last) (left_of i old in_old) (most_of old) full in_new
+          → FindsWithin i limit (Ok Last) (left_of i old in_old) (most_of old) full in_new
       passes_last full in_new count fills no_more some not_kept =
           let no_piece : length fills.piece ≡ 0 = fills.taken_count ∙ no_more in
           let nothing : fills.piece ≡ [] = empty fills.piece no_piece in
@@ -229,12 +229,12 @@ module _ {I : Type 0} (i : Ghosts I) where
           let behind : pending full ≡ [] = piece_is full in_new count fills ∙ nothing in
           let text : text_of full ≡ None = unkept full (fills.kept ∙ not_kept) in
           let long = passing.long in
-          let found = found_last (most_of old) mid.room passing.part passing.count (i.left in_new) (text_of full) (fills.at_end no_more) some passing.no_feed
-          (text ∙ sym (kept_none passing.part long)) in
-          subst (λ (left : Option Bytes). Finds i (Ok Last) left (most_of old) full in_new) (sym same)
-          (subst (λ (w : Bytes). Told (λ (input later : Bytes). IsLast (most_of old) input (text_of full) × (later ≡ [])) (before passing.part (i.left in_new)) (before w (i.left in_new))) (sym behind) found)
+          let found = found_last limit (most_of old) mid.room passing.part passing.count (i.left in_new) (text_of full) (fills.at_end no_more) some passing.no_feed
+          (text ∙ sym (kept_none limit passing.part long)) in
+          subst (λ (left : Option Bytes). FindsWithin i limit (Ok Last) left (most_of old) full in_new) (sym same)
+          (subst (λ (w : Bytes). Told (λ (input later : Bytes). IsLastWithin limit (most_of old) input (text_of full) × (later ≡ [])) (before passing.part (i.left in_new)) (before w (i.left in_new))) (sym behind) found)
 
-      pub passes_fault : (new : Lines) (in_new : I) (fault : InputFault) → Fills i (Err fault) mid in_mid new in_new → Finds i (Err fault) (left_of i old in_old) (most_of old) new in_new
+      pub passes_fault : (new : Lines) (in_new : I) (fault : InputFault) → Fills i (Err fault) mid in_mid new in_new → FindsWithin i limit (Err fault) (left_of i old in_old) (most_of old) new in_new
       passes_fault new in_new fault fills =
           let nothing : pending new ≡ [] = fills.pending ∙ ap (λ (w : Bytes). w ++ fills.piece) none ∙ fills.none in
           let same : i.left in_mid ≡ i.left in_new

@@ -7,7 +7,7 @@ use Rattle.std.proofs.lemmas.List.Sums.{passes_at_first, prefix_len-le-length, s
 use Rattle.std.specs.List.{after_first, before_first, position_or_len}
 use Rattle.std.specs.Prelude.{slice_range}
 use Rattle.uq_value.specs.Data.{Bytes}
-use Rattle.uq_words.specs.Lines.{HasNoFeed, is_feed, kept, longest, without_return}
+use Rattle.uq_words.specs.Lines.{HasNoFeed, is_feed, kept_within, without_return}
 
 -- ---- the first line feed
 
@@ -100,20 +100,19 @@ text_shorter (c ∷ []) = by (eqb c 0x0d)
 text_shorter (c ∷ next ∷ cs) = let others = text_shorter (next ∷ cs) in omega (arith, others)
 
 -- the text of a line that was cut from these bytes
-module _ (bytes : Bytes) (next end n : ℕ) (is : n ≡ length (without_return (slice_range bytes next end))) where
-  text_part : slice_range bytes next (next + n) ≡ without_return (slice_range bytes next end)
+module _ (bytes : Bytes) (limit next end n : ℕ) (is : n ≡ length (without_return (slice_range bytes next end))) where
+  text_part : take n (drop next bytes) ≡ without_return (slice_range bytes next end)
   text_part =
       let shorter = text_shorter (slice_range bytes next end) in
       let count : length (slice_range bytes next end) ≡ min (end - next) (length (drop next bytes)) = length-take (end - next) (drop next bytes) in
-      ap (λ (m : ℕ). take m (drop next bytes)) (let same : next + n - next ≡ n = omega arith in same)
-      ∙ sym (take-take n (end - next) (drop next bytes) (omega arith))
+      sym (take-take n (end - next) (drop next bytes) (omega arith))
       ∙ ap (λ (m : ℕ). take m (slice_range bytes next end)) is
       ∙ text_front (slice_range bytes next end)
 
-  pub cut_text : (b : Bool) → b ≡ leb n longest → cond b (Some (slice_range bytes next (next + n))) None ≡ kept (slice_range bytes next end)
+  pub cut_text : (b : Bool) → leb n limit ≡ b → cond b (Some (take n (drop next bytes))) None ≡ kept_within limit (slice_range bytes next end)
   cut_text true short =
-      let less : ltb longest (length (without_return (slice_range bytes next end))) ≡ false = grind arith in
+      let less : ltb limit (length (without_return (slice_range bytes next end))) ≡ false = grind arith in
       ap (λ (w : Bytes). Some w) text_part ∙ sym (ap (λ (b : Bool). cond b None (Some (without_return (slice_range bytes next end)))) less)
   cut_text false long =
-      let more : ltb longest (length (without_return (slice_range bytes next end))) ≡ true = grind arith in
+      let more : ltb limit (length (without_return (slice_range bytes next end))) ≡ true = grind arith in
       sym (ap (λ (b : Bool). cond b None (Some (without_return (slice_range bytes next end)))) more)

@@ -1,9 +1,15 @@
 pub mod Splitting
 pub mod Numbers
 pub mod Plains
+pub mod Asking
 pub mod Shorter
 pub mod Cutting
 pub mod Pieces
 pub mod Spelling
 pub mod Filling
 pub mod Advancing
+pub mod InnerLines
+pub mod BlockSteps
+pub mod LongBlocks
+pub mod BlockFronts
+pub mod WholeScripts

@@ -7,7 +7,7 @@ use Rattle.uq_facts.specs.Causes.{HasCauseAt}
 use Rattle.uq_outside.specs.Stops.{Told}
 use Rattle.uq_outside.specs.declared.source.Source.{Ghosts}
 use Rattle.uq_value.specs.Data.{Bytes}
-use Rattle.uq_words.specs.Lines.{HasNoFeed, IsLast, IsLine, IsPart, IsTooMuch, kept, longest, without_return}
+use Rattle.uq_words.specs.Lines.{HasNoFeed, IsLastWithin, IsLineWithin, IsPart, IsTooMuch, kept_within, without_return}
 use Rattle.uq_words.specs.Taking.{Fills, Going, IsNotEnded, Takes, Took, room_of}
 use Rattle.uq_words.specs.declared.error.InputFault.{InputFault}
 use Rattle.uq_words.specs.declared.error.InputFault.TheVariants.{Source}
@@ -30,9 +30,9 @@ pub before_both : (xs ys : Bytes) (left : Option Bytes) → before xs (before ys
 before_both xs ys None = refl
 before_both xs ys (Some rest) = ap (λ (w : Bytes). Some w) (sym (append_assoc xs ys rest))
 
-module _ (most room : ℕ) (front : Bytes) (counts : most ≡ length front + room) where
-  pub found_line : (left : Option Bytes) (raw behind : Bytes) (text : Option Bytes) (most_behind : ℕ) → front ≡ raw ++ 0x0a ∷ behind → HasNoFeed raw → text ≡ kept raw → most_behind ≡ length behind + room
-      → Told (λ input later. IsLine most input text most_behind later) (before front left) (before behind left)
+module _ (limit most room : ℕ) (front : Bytes) (counts : most ≡ length front + room) where
+  pub found_line : (left : Option Bytes) (raw behind : Bytes) (text : Option Bytes) (most_behind : ℕ) → front ≡ raw ++ 0x0a ∷ behind → HasNoFeed raw → text ≡ kept_within limit raw → most_behind ≡ length behind + room
+      → Told (λ input later. IsLineWithin limit most input text most_behind later) (before front left) (before behind left)
   found_line None raw behind text most_behind split none is counts_behind = tt
   found_line (Some rest) raw behind text most_behind split none is counts_behind =
       let whole : length front ≡ length (raw ++ 0x0a ∷ behind) = ap length split in
@@ -45,8 +45,8 @@ module _ (most room : ℕ) (front : Bytes) (counts : most ≡ length front + roo
         kept_text = is;
       }
 
-  pub found_last : (left : Option Bytes) (text : Option Bytes) → IsAtEnd left → 0 < room → HasNoFeed front → text ≡ kept front
-      → Told (λ input later. IsLast most input text × (later ≡ [])) (before front left) (before [] left)
+  pub found_last : (left : Option Bytes) (text : Option Bytes) → IsAtEnd left → 0 < room → HasNoFeed front → text ≡ kept_within limit front
+      → Told (λ input later. IsLastWithin limit most input text × (later ≡ [])) (before front left) (before [] left)
   found_last None text ends some none is = tt
   found_last (Some rest) text ends some none is =
       let all : front ++ rest ≡ front = ap (λ (w : Bytes). front ++ w) ends ∙ append-nil front in
@@ -54,7 +54,7 @@ module _ (most room : ℕ) (front : Bytes) (counts : most ≡ length front + roo
         record {
           no_feed = subst (λ (w : Bytes). HasNoFeed w) (sym all) none;
           few = omega arith;
-          kept_text = is ∙ ap kept (sym all);
+          kept_text = is ∙ ap (kept_within limit) (sym all);
         },
         ends,
       )
@@ -70,10 +70,10 @@ found_part None front none = tt
 found_part (Some rest) front none = record { part = front; no_feed = none; split = refl }
 
 -- a line that is too long has no text
-pub kept_none : (raw : Bytes) → longest + 1 < length raw → kept raw ≡ None
-kept_none raw long =
+pub kept_none : (limit : ℕ) (raw : Bytes) → limit + 1 < length raw → kept_within limit raw ≡ None
+kept_none limit raw long =
     let one = return_one raw in
-    let above : ltb longest (length (without_return raw)) ≡ true = grind arith in
+    let above : ltb limit (length (without_return raw)) ≡ true = grind arith in
     ap (λ (b : Bool). cond b None (Some (without_return raw))) above
 
 -- ---- told or not
@@ -87,7 +87,7 @@ fails_step fault = Err fault
 abbrev pub fails_count : InputFault → Result ℕ InputFault
 fails_count fault = Err fault
 
-took_both : (n m k before mid now : ℕ) → k ≡ n + m → Took n before mid → Took m mid now → Took k before now
+pub took_both : (n m k before mid now : ℕ) → k ≡ n + m → Took n before mid → Took m mid now → Took k before now
 took_both n m k before mid now is (inl (none, same)) (inl (none', same')) = inl (omega arith, same' ∙ same)
 took_both n m k before mid now is (inl (none, same)) (inr next) = inr (omega arith)
 took_both n m k before mid now is (inr first) (inl (none', same')) = inr (omega arith)

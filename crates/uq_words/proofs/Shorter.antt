@@ -8,8 +8,8 @@ use Rattle.uq_words.specs.declared.lines.Lines.{Lines}
 behind : (it : Lines) → length (pending it) ≡ length it.bytes.items - it.next
 behind it = length-drop it.next it.bytes.items
 
-pub cuts_shorter : (it new : Lines) (end : ℕ) → it.next ≤ end → end < length it.bytes.items → Cuts end (end + 1) it new → most_of new < most_of it
-cuts_shorter it new end begins within cuts =
+pub cuts_shorter : (limit : ℕ) (it new : Lines) (end : ℕ) → it.next ≤ end → end < length it.bytes.items → Cuts limit end (end + 1) it new → most_of new < most_of it
+cuts_shorter limit it new end begins within cuts =
     let after : length (pending new) ≡ length it.bytes.items - (end + 1)
     = behind new ∙ ap (λ (n : ℕ). n - new.next) (ap length cuts.bytes) ∙ ap (λ (n : ℕ). length it.bytes.items - n) cuts.begins in
     let before = behind it in

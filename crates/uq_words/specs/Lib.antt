@@ -4,3 +4,6 @@ pub mod Lines
 pub mod Texts
 pub mod Taking
 pub mod LinesLaws
+pub mod Blocks
+pub mod TakingBlocks
+pub mod BlocksLaws

@@ -26,9 +26,13 @@ abbrev pub is_comment : Bytes → Bool
 is_comment [] = true
 is_comment (c ∷ cs) = c == 0x23
 
+-- the text of a line, where it has no more than so many bytes
+abbrev pub kept_within : ℕ → Bytes → Option Bytes
+kept_within limit raw = if nat_lt limit (length (without_return raw)) then None else Some (without_return raw)
+
 -- the text of a line, where it is no longer than a line may be
 abbrev pub kept : Bytes → Option Bytes
-kept raw = if nat_lt longest (length (without_return raw)) then None else Some (without_return raw)
+kept raw = kept_within longest raw
 
 -- what a line says: nothing, or words; or why it says none
 pub data Spoken : Type 0 where
@@ -54,19 +58,26 @@ spoken raw = spoken_by (kept raw)
 abbrev pub HasNoFeed : Bytes → Type 0
 HasNoFeed = All (λ c. is_feed c ≡ false)
 
--- A line and its line feed stand before what is left.
-pub record IsLine (most : ℕ) (input : Bytes) (text : Option Bytes) (most_behind : ℕ) (behind : Bytes) : Type 0 where
+-- A line and its line feed stand before what is left. Of the line so many bytes are kept at most.
+pub record IsLineWithin (limit most : ℕ) (input : Bytes) (text : Option Bytes) (most_behind : ℕ) (behind : Bytes) : Type 0 where
   pub raw : Bytes
   pub no_feed : HasNoFeed raw
   pub split : input ≡ raw ++ 0x0a ∷ behind
   pub count : most ≡ length raw + 1 + most_behind
-  pub kept_text : text ≡ kept raw
+  pub kept_text : text ≡ kept_within limit raw
 
 -- All of the input is its last line.
-pub record IsLast (most : ℕ) (input : Bytes) (text : Option Bytes) : Type 0 where
+pub record IsLastWithin (limit most : ℕ) (input : Bytes) (text : Option Bytes) : Type 0 where
   pub no_feed : HasNoFeed input
   pub few : length input < most
-  pub kept_text : text ≡ kept input
+  pub kept_text : text ≡ kept_within limit input
+
+-- the same, where a line is kept that is no longer than a line may be
+abbrev pub IsLine : ℕ → Bytes → Option Bytes → ℕ → Bytes → Type 0
+IsLine = IsLineWithin longest
+
+abbrev pub IsLast : ℕ → Bytes → Option Bytes → Type 0
+IsLast = IsLastWithin longest
 
 -- The line is not at its end where the bytes that count are.
 pub record IsTooMuch (most : ℕ) (input : Bytes) : Type 0 where

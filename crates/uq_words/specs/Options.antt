@@ -17,8 +17,61 @@ pub record Asked : Type 0 where
   -- the words of a command; none where the input is to be read
   pub words : List Bytes
 
-abbrev pub usual_budget : ℕ
-usual_budget = 10 ^ 7
+-- ---- the options, a row of each table for each
+
+pub data Setting : Type 0 where
+  Budget : Setting
+  MaxEntries : Setting
+  MaxBytes : Setting
+
+-- the option that a word is
+abbrev pub setting : Bytes → Option Setting
+setting word =
+    if bytes_eq word (codes "--budget") then Some Budget
+    else if bytes_eq word (codes "--max-entries") then Some MaxEntries
+    else if bytes_eq word (codes "--max-bytes") then Some MaxBytes
+    else None
+
+abbrev pub most_budget : ℕ
+most_budget = 10 ^ 12
+
+-- the greatest number that may be given
+abbrev pub greatest : Setting → ℕ
+greatest Budget = most_budget
+greatest MaxEntries = MOST_ENTRIES
+greatest MaxBytes = MOST_BYTES
+
+-- the number that holds where none is given
+abbrev pub usual : Setting → ℕ
+usual Budget = 10 ^ 7
+usual MaxEntries = MOST_ENTRIES
+usual MaxBytes = MOST_BYTES
+
+-- the numbers that were given
+pub record Numbers : Type 0 where
+  pub budget : Option ℕ
+  pub max_entries : Option ℕ
+  pub max_bytes : Option ℕ
+
+abbrev pub no_numbers : Numbers
+no_numbers = record { budget = None; max_entries = None; max_bytes = None }
+
+abbrev pub given : Setting → Numbers → Option ℕ
+given Budget numbers = numbers.budget
+given MaxEntries numbers = numbers.max_entries
+given MaxBytes numbers = numbers.max_bytes
+
+abbrev pub give : Setting → ℕ → Numbers → Numbers
+give Budget n numbers = record { budget = Some n; max_entries = numbers.max_entries; max_bytes = numbers.max_bytes }
+give MaxEntries n numbers = record { budget = numbers.budget; max_entries = Some n; max_bytes = numbers.max_bytes }
+give MaxBytes n numbers = record { budget = numbers.budget; max_entries = numbers.max_entries; max_bytes = Some n }
+
+abbrev pub or_else : Option ℕ → ℕ → ℕ
+or_else None other = other
+or_else (Some n) other = n
+
+abbrev pub value_of : Setting → Numbers → ℕ
+value_of setting numbers = or_else (given setting numbers) (usual setting)
 
 -- ---- numbers of options
 
@@ -35,6 +88,10 @@ abbrev pub once : Option ℕ → Option ℕ → Option ℕ
 once (Some before) given = None
 once None given = given
 
+-- the number that an option gives behind these
+abbrev pub gives : Numbers → Setting → Bytes → Option ℕ
+gives numbers it text = once (given it numbers) (number (greatest it) text)
+
 -- ---- the name and the words of a command
 
 abbrev pub begins_with_dash : Bytes → Bool
@@ -50,20 +107,16 @@ plain words =
     let before = before_first is_dashes words in
     if list_any begins_with_dash before then None else Some (before ++ after_first is_dashes words)
 
-abbrev pub or_else : Option ℕ → ℕ → ℕ
-or_else None usual = usual
-or_else (Some given) usual = given
-
 -- the name of the database is not empty
-abbrev pub named : Option ℕ → Option ℕ → Option (List Bytes) → Option Asked
-named entries bytes None = None
-named entries bytes (Some []) = None
-named entries bytes (Some (name ∷ words)) =
+abbrev pub named : Numbers → Option (List Bytes) → Option Asked
+named numbers None = None
+named numbers (Some []) = None
+named numbers (Some (name ∷ words)) =
     if length name == 0 then None
     else Some (record {
-      budget = usual_budget;
-      max_entries = or_else entries MOST_ENTRIES;
-      max_bytes = or_else bytes MOST_BYTES;
+      budget = value_of Budget numbers;
+      max_entries = value_of MaxEntries numbers;
+      max_bytes = value_of MaxBytes numbers;
       name = name;
       words = words;
     })
@@ -74,15 +127,20 @@ abbrev pub with_number : Option ℕ → (ℕ → Option Asked) → Option Asked
 with_number None next = None
 with_number (Some n) next = next n
 
+-- what an option and its number ask for, or words that begin with no option
+abbrev pub with_setting : Option Setting → (Setting → Option Asked) → Option Asked → Option Asked
+with_setting None next others = others
+with_setting (Some setting) next others = next setting
+
 -- words behind options that gave these numbers: further options, and then the others
-abbrev pub order_behind : Option ℕ → Option ℕ → List Bytes → Option Asked
-order_behind entries bytes [] = None
-order_behind entries bytes (word ∷ []) = named entries bytes (plain (word ∷ []))
-order_behind entries bytes (word ∷ next ∷ words) =
-    if bytes_eq word (codes "--max-entries") then with_number (once entries (number MOST_ENTRIES next)) (λ n. order_behind (Some n) bytes words)
-    else if bytes_eq word (codes "--max-bytes") then with_number (once bytes (number MOST_BYTES next)) (λ n. order_behind entries (Some n) words)
-    else named entries bytes (plain (word ∷ next ∷ words))
+abbrev pub order_behind : Numbers → List Bytes → Option Asked
+order_behind numbers [] = None
+order_behind numbers (word ∷ []) = named numbers (plain (word ∷ []))
+order_behind numbers (word ∷ text ∷ words) =
+    with_setting (setting word)
+    (λ it. with_number (gives numbers it text) (λ n. order_behind (give it n numbers) words))
+    (named numbers (plain (word ∷ text ∷ words)))
 
 -- the words, where they are in form
 unfoldable pub order_of_words : List Bytes → Option Asked
-order_of_words words = order_behind None None words
+order_of_words words = order_behind no_numbers words

@@ -1,12 +1,12 @@
 -- What a line taken from a source is, and what is left behind it.
-use Rattle.std.specs.Prelude.{◌≡◌, ◌⊎◌, ◌==◌, ℕ, ◌+◌, ◌-◌, ◌^◌, ◌≤◌, ◌<◌, min, true, false, ◌++◌, if◌then◌else◌, [], length, drop, slice_range, Option, Some, None, Result, Ok, Err, IfOk, OnErr}
+use Rattle.std.specs.Prelude.{◌≡◌, ◌⊎◌, ◌==◌, ℕ, ◌+◌, ◌-◌, ◌^◌, ◌≤◌, ◌<◌, min, nat_le, true, false, ◌++◌, if◌then◌else◌, [], length, take, drop, slice_range, Option, Some, None, Result, Ok, Err, IfOk, OnErr}
 use Rattle.std.specs.Io.KnownBytes.{IsAtEnd}
 use Rattle.std.specs.Option.{ForSome, option_map}
 use Rattle.uq_facts.specs.Causes.{HasCauseAt}
 use Rattle.uq_outside.specs.Stops.{Told}
 use Rattle.uq_outside.specs.declared.source.Source.{Ghosts}
 use Rattle.uq_value.specs.Data.{Bytes}
-use Rattle.uq_words.specs.Lines.{HasNoFeed, IsLast, IsLine, IsPart, IsTooMuch, kept, longest}
+use Rattle.uq_words.specs.Lines.{HasNoFeed, IsLastWithin, IsLineWithin, IsPart, IsTooMuch, kept_within, longest}
 use Rattle.uq_words.specs.declared.error.InputFault.{InputFault}
 use Rattle.uq_words.specs.declared.error.InputFault.TheVariants.{Source}
 use Rattle.uq_words.specs.declared.lines.Lines.{Lines}
@@ -38,12 +38,19 @@ module _ {I : Type 0} (i : Ghosts I) where
   abbrev pub left_of : Lines → I → Option Bytes
   left_of it input = option_map (λ rest. pending it ++ rest) (i.left input)
 
-  -- What a step finds at the front of what was left, of which so many bytes counted; and what it leaves.
+  -- What a step finds at the front of what was left, of which so many bytes counted; and what it leaves. A line with more
+  -- bytes than the limit is not kept.
+  abbrev pub FindsWithin : ℕ → Result Step InputFault → Option Bytes → ℕ → Lines → I → Type 0
+  FindsWithin limit (Ok Line) left most new in_new =
+      Told (λ input behind. IsLineWithin limit most input (text_of new) (most_of new) behind) left (left_of new in_new)
+  FindsWithin limit (Ok Last) left most new in_new =
+      Told (λ input behind. IsLastWithin limit most input (text_of new) × (behind ≡ [])) left (left_of new in_new)
+  FindsWithin limit (Ok TooMuch) left most new in_new = ForSome left (λ input. IsTooMuch most input)
+  FindsWithin limit (Err fault) left most new in_new = Told IsPart left (i.left in_new)
+
+  -- the same, where a line is kept that is no longer than a line may be
   abbrev pub Finds : Result Step InputFault → Option Bytes → ℕ → Lines → I → Type 0
-  Finds (Ok Line) left most new in_new = Told (λ input behind. IsLine most input (text_of new) (most_of new) behind) left (left_of new in_new)
-  Finds (Ok Last) left most new in_new = Told (λ input behind. IsLast most input (text_of new) × (behind ≡ [])) left (left_of new in_new)
-  Finds (Ok TooMuch) left most new in_new = ForSome left (λ input. IsTooMuch most input)
-  Finds (Err fault) left most new in_new = Told IsPart left (i.left in_new)
+  Finds = FindsWithin longest
 
   -- nothing was taken, or the last take has not told the end
   abbrev pub IsNotEnded : Lines → I → Lines → I → Type 0
@@ -65,12 +72,19 @@ Shortens result old new = result ≡ Ok Line → most_of new < most_of old
 
 -- ---- the steps within
 
--- The line is what was behind it up to there.
-pub record Cuts (end next : ℕ) (old new : Lines) : Type 0 where
+-- The text is the first bytes of what was behind the line, unless they are more than the limit.
+pub record Gives (count limit next : ℕ) (old new : Lines) : Type 0 where
   pub bytes : new.bytes.items ≡ old.bytes.items
   pub begins : new.next ≡ next
   pub room : new.room ≡ old.room
-  pub text : text_of new ≡ kept (slice_range old.bytes.items old.next end)
+  pub text : text_of new ≡ if nat_le count limit then Some (take count (pending old)) else None
+
+-- The line is what was behind it up to there.
+pub record Cuts (limit end next : ℕ) (old new : Lines) : Type 0 where
+  pub bytes : new.bytes.items ≡ old.bytes.items
+  pub begins : new.next ≡ next
+  pub room : new.room ≡ old.room
+  pub text : text_of new ≡ kept_within limit (slice_range old.bytes.items old.next end)
 
 -- What was taken begins with what is behind the line.
 pub record Trims (old new : Lines) : Type 0 where
@@ -103,9 +117,9 @@ module _ {I : Type 0} (i : Ghosts I) where
     pub cause : HasCauseAt Source (i.faults in_old) (i.faults in_new) result
 
   -- what a step finds, where a line that is too long is at the front
-  abbrev pub Passes : Result Step InputFault → Lines → I → Lines → I → Type 0
-  Passes result old in_old new in_new =
-      HasNoFeed (pending old) → longest + 1 < length (pending old) → Finds i result (left_of i old in_old) (most_of old) new in_new
+  abbrev pub Passes : ℕ → Result Step InputFault → Lines → I → Lines → I → Type 0
+  Passes limit result old in_old new in_new =
+      HasNoFeed (pending old) → limit + 1 < length (pending old) → FindsWithin i limit result (left_of i old in_old) (most_of old) new in_new
 
   -- Takes of a source so far, none of which failed or told the end.
   pub record Going (old : Lines) (in_old : I) (new : Lines) (in_new : I) : Type 0 where
@@ -115,9 +129,9 @@ module _ {I : Type 0} (i : Ghosts I) where
     pub fresh : IsNotEnded i old in_old new in_new
 
   -- The line that was at the front goes on up to here, and is too long.
-  pub record Passing (old : Lines) (in_old : I) (new : Lines) (in_new : I) : Type 0 where
+  pub record Passing (limit : ℕ) (old : Lines) (in_old : I) (new : Lines) (in_new : I) : Type 0 where
     pub part : Bytes
     pub no_feed : HasNoFeed part
-    pub long : longest + 1 < length part
+    pub long : limit + 1 < length part
     pub left : left_of i old in_old ≡ option_map (λ rest. part ++ rest) (i.left in_new)
     pub count : most_of old ≡ length part + room_of new

@@ -3,7 +3,7 @@ use Rattle.std.specs.Prelude.{◌≡◌, List, map, String, string_bytes, Option
 use Rattle.std.specs.Global.{Global}
 use Rattle.std.specs.Borrow.{Bor}
 use Rattle.uq_value.specs.Data.{Bytes}
-use Rattle.uq_words.specs.Options.{Asked, named, order_behind, order_of_words, plain}
+use Rattle.uq_words.specs.Options.{Asked, Numbers, named, no_numbers, order_behind, order_of_words, plain, Setting, Budget, MaxEntries, MaxBytes}
 use Rattle.uq_words.specs.Lines.{Spoken, Silent, TooLong, NoWords, Says}
 use Rattle.uq_words.specs.Words.{words}
 use Rattle.uq_words.specs.declared.line.Line.{Line}
@@ -12,9 +12,11 @@ use Rattle.uq_json.specs.declared.error.JsonFault.{JsonFault}
 use Rattle.uq_json.specs.declared.error.JsonFault.TheVariants as json
 use Rattle.uq_words.specs.declared.error.OptionsFault.{OptionsFault}
 use Rattle.uq_words.specs.declared.error.OptionsFault.TheVariants as options
-use Rattle.uq_words.specs.declared.options.Given.{Given}
+use Rattle.uq_words.specs.declared.settings.Given.{Given}
 use Rattle.uq_words.specs.declared.options.Name.{Name}
 use Rattle.uq_words.specs.declared.options.Order.{Order}
+use Rattle.uq_words.specs.declared.settings.Setting as option
+use Rattle.uq_words.specs.declared.settings.Setting.TheVariants as setting
 use Rattle.uq_words.specs.declared.words.Words.{Words}
 use Rattle.uq_words.specs.declared.error.WordsFault.{WordsFault}
 use Rattle.uq_words.specs.declared.error.WordsFault.TheVariants as fault
@@ -74,14 +76,24 @@ AnswersAsked asked (Err options.Memory) = Unit {0}
 abbrev pub AnswersOptions : List Bytes → Result Order OptionsFault → Type 0
 AnswersOptions words = AnswersAsked (order_of_words words)
 
+-- the numbers that the code has read
+abbrev pub numbers_of : Given → Numbers
+numbers_of given = record { budget = given.budget; max_entries = given.max_entries; max_bytes = given.max_bytes }
+
 -- the same, behind options that gave these numbers
 abbrev pub AnswersOrder : Given → List Bytes → Result Order OptionsFault → Type 0
-AnswersOrder given words = AnswersAsked (named given.entries given.bytes (plain words))
+AnswersOrder given words = AnswersAsked (named (numbers_of given) (plain words))
 
 -- the options at the front, where they are in form
-abbrev pub ReadsLimits : List Bytes → Option (Given × Bor (List (String Global))) → Type 0
-ReadsLimits words None = order_behind None None words ≡ None
-ReadsLimits words (Some (given, rest)) = order_behind None None words ≡ named given.entries given.bytes (plain (texts rest.now))
+abbrev pub ReadsSettings : List Bytes → Option (Given × Bor (List (String Global))) → Type 0
+ReadsSettings words None = order_behind no_numbers words ≡ None
+ReadsSettings words (Some (given, rest)) = order_behind no_numbers words ≡ named (numbers_of given) (plain (texts rest.now))
+
+-- the option, as the code has it
+abbrev pub setting_as : option.Setting → Setting
+setting_as setting.Budget = Budget
+setting_as setting.MaxEntries = MaxEntries
+setting_as setting.MaxBytes = MaxBytes
 
 -- the words without the first `--`; want of memory may always be the answer
 abbrev pub AnswersPlain : {A : Type 0} → (A → List Bytes) → List Bytes → Result A OptionsFault → Type 0

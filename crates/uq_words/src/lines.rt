@@ -18,19 +18,19 @@ pub const LONGEST: usize = 1 << 26;
 /// How many bytes are asked for at once.
 const PIECE: u64 = 1 << 15;
 
-/// The line that was taken last, and what was taken behind it.
+/// The line or the block that was taken last, and what was taken behind it.
 #[derive(Drop)]
 pub struct Lines {
-    bytes: Vec<u8>,
-    /// Where the line stands, without a carriage return at its end.
+    pub(crate) bytes: Vec<u8>,
+    /// Where the line stands, without a carriage return at its end; or the text of a block.
     from: usize,
     to: usize,
-    /// Whether it was kept: it is no longer than a line may be.
-    kept: bool,
+    /// Whether it was kept: it is no longer than it may be.
+    pub(crate) kept: bool,
     /// Where the bytes behind it begin.
-    next: usize,
+    pub(crate) next: usize,
     /// How many more bytes may be taken.
-    room: u64,
+    pub(crate) room: u64,
     ghost order: { from ≤ to },
     ghost line: { to ≤ length bytes.items },
     ghost rest: { next ≤ length bytes.items },
@@ -48,11 +48,11 @@ pub enum Step {
 }
 
 impl Lines {
-    ghost use Rattle.std.specs.Prelude.{◌≡◌, ◌≤◌, ◌<◌, ◌+◌, [], length, take};
+    ghost use Rattle.std.specs.Prelude.{◌≡◌, ◌≤◌, ◌<◌, ◌+◌, [], drop, length, take};
     ghost use Rattle.std.specs.List.{position_or_len};
     ghost use Rattle.std.specs.Option.{option_map};
-    ghost use Rattle.uq_words.specs.Lines.{HasNoFeed, is_feed};
-    ghost use Rattle.uq_words.specs.Taking.{Cleared, Cuts, Fills, Finds, Passes, Shortens, Takes, Trims, left_of, most_of, pending, room_of, text_of};
+    ghost use Rattle.uq_words.specs.Lines.{HasNoFeed, is_feed, longest};
+    ghost use Rattle.uq_words.specs.Taking.{Cleared, Cuts, Fills, Finds, FindsWithin, Gives, Passes, Shortens, Takes, Trims, left_of, most_of, pending, room_of, text_of};
 
     /// The lines of an input of which at most so many bytes are taken. No line was taken yet.
     pub fn new(alloc: Global, most: u64) -> Lines
@@ -69,8 +69,8 @@ impl Lines {
         }
     }
 
-    /// The line that was taken last, without the carriage return before its end. None where it is longer than
-    /// `LONGEST`.
+    /// The line that was taken last, without the carriage return before its end, or the text of the block that was.
+    /// None where it is longer than it may be.
     pub fn text(&self) -> Option<&[u8]>
         ensures { option_map (λ text. text.now) result ≡ text_of self.now }
     {
@@ -81,37 +81,52 @@ impl Lines {
         }
     }
 
-    /// Takes the next line. Of one that is too long, what lies behind that length is not kept.
+    /// Takes the next line. Of one that is longer than `LONGEST`, what lies behind that length is not kept.
     pub fn advance<I: Source>(&mut self, input: &mut I) -> Result<Step, InputFault>
         ensures finds { Finds I.Source result (left_of I.Source self.old input.old) (most_of self.old) self.new input.new }
         ensures takes { Takes I.Source result self.old input.old self.new input.new }
         ensures shorter { Shortens result self.old self.new }
     {
+        self.take_line(input, LONGEST)
+    }
+
+    /// Takes the next line. Of one that is longer than this, what lies behind that length is not kept.
+    pub(crate) fn take_line<I: Source>(
+        &mut self,
+        input: &mut I,
+        limit: usize,
+    ) -> Result<Step, InputFault>
+        requires { limit ≤ longest }
+        ensures finds { FindsWithin I.Source limit result (left_of I.Source self.old input.old) (most_of self.old)
+            self.new input.new }
+        ensures takes { Takes I.Source result self.old input.old self.new input.new }
+        ensures shorter { Shortens result self.old self.new }
+    {
         let mut searched = 0;
         'pieces: loop {
-            let end = self.line_end(searched);
+            let end = self.line_end(self.next, searched);
             if end < self.bytes.len() {
-                self.cut(end, end + 1);
+                self.cut(end, end + 1, limit);
                 return Ok(Step::Line);
             }
             searched = self.bytes.len() - self.next;
-            if searched > LONGEST + 1 {
-                return self.skip(input);
+            if searched > limit + 1 {
+                return self.skip(input, limit);
             }
             if self.room == 0 {
                 return Ok(Step::TooMuch);
             }
             if self.fill(input)? == 0 {
                 let end = self.bytes.len();
-                self.cut(end, end);
+                self.cut(end, end, limit);
                 return Ok(Step::Last);
             }
         }
     }
 
-    /// Passes the rest of a line that is too long, without keeping it.
-    fn skip<I: Source>(&mut self, input: &mut I) -> Result<Step, InputFault>
-        ensures passes { Passes I.Source result self.old input.old self.new input.new }
+    /// Passes the rest of a line that is longer than this, without keeping it.
+    fn skip<I: Source>(&mut self, input: &mut I, limit: usize) -> Result<Step, InputFault>
+        ensures passes { Passes I.Source limit result self.old input.old self.new input.new }
         ensures takes { Takes I.Source result self.old input.old self.new input.new }
         ensures shorter { Shortens result self.old self.new }
     {
@@ -123,7 +138,7 @@ impl Lines {
             if self.fill(input)? == 0 {
                 return Ok(Step::Last);
             }
-            let end = self.line_end(0);
+            let end = self.line_end(self.next, 0);
             if end < self.bytes.len() {
                 self.next = end + 1;
                 return Ok(Step::Line);
@@ -131,33 +146,43 @@ impl Lines {
         }
     }
 
-    /// Where the line behind this one ends. So many of its bytes have no line feed.
-    fn line_end(&self, searched: usize) -> usize
-        requires within { searched ≤ length (pending self.now) }
-        requires none { HasNoFeed (take searched (pending self.now)) }
-        ensures place { result ≡ self.now.next + position_or_len is_feed (pending self.now) }
+    /// Where the line ends that begins there. So many of its bytes have no line feed.
+    pub(crate) fn line_end(&self, begins: usize, searched: usize) -> usize
+        requires inside { begins ≤ length self.now.bytes.items }
+        requires within { searched ≤ length (drop begins self.now.bytes.items) }
+        requires none { HasNoFeed (take searched (drop begins self.now.bytes.items)) }
+        ensures place { result ≡ begins + position_or_len is_feed (drop begins self.now.bytes.items) }
         ensures within { result ≤ length self.now.bytes.items }
     {
-        let from = self.next + searched;
+        let from = begins + searched;
         from + line_len(&self.bytes[from..])
     }
 
-    /// The line ends there, and what is behind it begins at `next`.
-    fn cut(&mut self, end: usize, next: usize)
+    /// The line ends there, and what is behind it begins at `next`. It is kept where it is no longer than the limit.
+    fn cut(&mut self, end: usize, next: usize, limit: usize)
         requires begins { self.old.next ≤ end }
         requires ends { end ≤ next }
         requires within { next ≤ length self.old.bytes.items }
-        ensures { Cuts end next self.old self.new }
+        ensures { Cuts limit end next self.old self.new }
     {
-        let length = without_return(&self.bytes[self.next..end]).len();
+        let count = without_return(&self.bytes[self.next..end]).len();
+        self.give(count, limit, next);
+    }
+
+    /// The text is so many bytes behind what was given, where these are no more than the limit.
+    pub(crate) fn give(&mut self, count: usize, limit: usize, next: usize)
+        requires ends { self.old.next + count ≤ next }
+        requires within { next ≤ length self.old.bytes.items }
+        ensures { Gives count limit next self.old self.new }
+    {
         self.from = self.next;
-        self.to = self.from + length;
-        self.kept = length <= LONGEST;
+        self.to = self.from + count;
+        self.kept = count <= limit;
         self.next = next;
     }
 
     /// Keeps nothing of what was taken.
-    fn clear(&mut self)
+    pub(crate) fn clear(&mut self)
         ensures { Cleared self.old self.new }
     {
         self.bytes.clear();
@@ -182,7 +207,7 @@ impl Lines {
 
     /// Takes the next piece behind what there is, and answers its length. The buffer begins with what is behind the
     /// line, then.
-    fn fill<I: Source>(&mut self, input: &mut I) -> Result<usize, InputFault>
+    pub(crate) fn fill<I: Source>(&mut self, input: &mut I) -> Result<usize, InputFault>
         requires { 0 < self.old.room }
         ensures { Fills I.Source result self.old input.old self.new input.new }
     {
@@ -226,7 +251,7 @@ fn is_feed(byte: u8) -> bool
 }
 
 /// The line without one carriage return at its end.
-fn without_return(line: &[u8]) -> &[u8]
+pub(crate) fn without_return(line: &[u8]) -> &[u8]
     ensures line { result.now ≡ spec_without_return line.now }
     ensures within { length result.now ≤ length line.now }
 {

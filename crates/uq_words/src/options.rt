@@ -1,12 +1,14 @@
 //! What the words of the program ask for.
-ghost use Rattle.std.specs.Prelude.{◌≡◌, ◌≤◌, ◌^◌, ◌++◌, IfOk, OnOk, length, map, string_bytes};
+ghost use Rattle.std.specs.Prelude.{◌≡◌, ◌≤◌, ◌++◌, IfOk, OnOk, length, map, string_bytes};
 ghost use Rattle.std.specs.List.{after_first, before_first, list_any, position_or_len};
-ghost use Rattle.uq_words.specs.Options.{begins_with_dash as spec_begins_with_dash, is_dashes as spec_is_dashes, number, once};
-ghost use Rattle.uq_words.specs.Texts.{AnswersOptions, AnswersOrder, AnswersPlain, ReadsLimits, texts, texts_of};
+ghost use Rattle.uq_words.specs.Options.{begins_with_dash as spec_begins_with_dash, is_dashes as spec_is_dashes, most_budget};
+ghost use Rattle.uq_model.specs.declared.limits.TheConstants.{MOST_BYTES, MOST_ENTRIES};
+ghost use Rattle.uq_words.specs.Texts.{AnswersOptions, AnswersOrder, AnswersPlain, texts, texts_of};
 
+use crate::settings::{Given, Setting, read_settings};
 use crate::{OptionsFault, Words};
 use std::alloc::{AllocError, Global};
-use uq_model::{Limits, MOST_BYTES, MOST_ENTRIES};
+use uq_model::Limits;
 
 /// What the words of the program ask for.
 #[derive(Debug, Drop)]
@@ -54,81 +56,20 @@ impl Name {
     }
 }
 
-/// The units of a script where no option says otherwise.
-const USUAL_BUDGET: u64 = 10_000_000;
-
-/// The numbers that options have given.
-#[derive(Clone, Copy, Drop)]
-struct Given {
-    entries: Option<u64>,
-    bytes: Option<u64>,
-}
-
-/// What the words ask for: options `--max-entries N` and `--max-bytes N` first, each at most once; then the name of a
-/// database; then the words of a command. `--` is dropped, and all words behind it are plain; before it, every other
-/// word that begins with a dash is `Usage`. N is decimal digits alone, from 1 to the most that a store may hold.
+/// What the words ask for: options `--budget N`, `--max-entries N` and `--max-bytes N` first, each at most once; then
+/// the name of a database; then the words of a command. `--` is dropped, and all words behind it are plain; before it,
+/// every other word that begins with a dash is `Usage`. N is decimal digits alone, from 1 to the most that the option
+/// may give.
 pub fn read_options(alloc: Global, words: &[String]) -> Result<Order, OptionsFault>
     ensures answers { AnswersOptions (texts words.now) result }
+    ensures budget { IfOk result (λ order. order.budget ≤ most_budget) }
     ensures entries { IfOk result (λ order. order.max_entries ≤ MOST_ENTRIES) }
     ensures bytes { IfOk result (λ order. order.max_bytes ≤ MOST_BYTES) }
 {
-    match read_limits(words) {
+    match read_settings(words) {
         Some((given, words)) => read_order(alloc, given, words),
         None => Err(OptionsFault::Usage),
     }
-}
-
-/// The numbers of the options at the front, and the words behind these.
-fn read_limits(words: &[String]) -> Option<(Given, &[String])>
-    ensures { ReadsLimits (texts words.now) result }
-{
-    let mut given = Given {
-        entries: None,
-        bytes: None,
-    };
-    let mut rest = words;
-    'options: loop {
-        let [option, text, others @ ..] = rest else {
-            return Some((given, rest));
-        };
-        match option.as_str() {
-            "--max-entries" => given.entries = Some(read_once(given.entries, text, MOST_ENTRIES)?),
-            "--max-bytes" => given.bytes = Some(read_once(given.bytes, text, MOST_BYTES)?),
-            _ => return Some((given, rest)),
-        }
-        rest = others;
-    }
-}
-
-/// The number of an option that was not given before.
-fn read_once(before: Option<u64>, text: &String, most: u64) -> Option<u64>
-    requires { most ≤ 2 ^ 32 }
-    ensures { result ≡ once before (number most (string_bytes text.now)) }
-{
-    match before {
-        Some(_) => None,
-        None => read_number(text.as_str().as_bytes(), most),
-    }
-}
-
-/// The number that decimal digits alone stand for, where it is from 1 to the most.
-fn read_number(text: &[u8], most: u64) -> Option<u64>
-    requires { most ≤ 2 ^ 32 }
-    ensures { result ≡ number most text.now }
-{
-    let mut value: u64 = 0;
-    let mut rest = text;
-    'digits: while let [byte, others @ ..] = rest {
-        if !byte.is_ascii_digit() {
-            return None;
-        }
-        value = value * 10 + u64::from(*byte - b'0');
-        if value > most {
-            return None;
-        }
-        rest = others;
-    }
-    if value == 0 { None } else { Some(value) }
 }
 
 /// What the words behind the options ask for.
@@ -138,9 +79,9 @@ fn read_order(alloc: Global, given: Given, words: &[String]) -> Result<Order, Op
     let plain = plain_words(alloc, words)?;
     match plain.as_slice() {
         [name, words @ ..] if !name.is_empty() => Ok(Order {
-            budget: USUAL_BUDGET,
-            max_entries: given.entries.unwrap_or(MOST_ENTRIES),
-            max_bytes: given.bytes.unwrap_or(MOST_BYTES),
+            budget: given.value(Setting::Budget),
+            max_entries: given.value(Setting::MaxEntries),
+            max_bytes: given.value(Setting::MaxBytes),
             name: Name {
                 text: String::from_str(alloc, name)?,
             },

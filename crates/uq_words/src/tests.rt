@@ -103,14 +103,20 @@ fn a_comment_says_nothing_whatever_stands_in_it(rt: HostRuntime) -> Result<(), F
     Ok(())
 }
 
-/// What the words ask for, as one text; `usage` where they are in no form.
-fn ordered(alloc: Global, line: &str) -> Result<String, Fail> {
+/// The words between the bars of a line.
+fn words_in(alloc: Global, line: &str) -> Result<Vec<String>, Fail> {
     let mut words = Vec::new(alloc);
     if !line.is_empty() {
         for word in line.split('|') {
             words.push(String::from_str(alloc, word)?)?;
         }
     }
+    Ok(words)
+}
+
+/// What the words ask for but the budget, as one text; `usage` where they are in no form.
+fn ordered(alloc: Global, line: &str) -> Result<String, Fail> {
+    let words = words_in(alloc, line)?;
     match read_options(alloc, words.as_slice()) {
         Ok(order) => {
             let limits = order.limits();
@@ -159,7 +165,7 @@ fn options_come_first_and_each_once(rt: HostRuntime) -> Result<(), Fail> {
         ("--max-entries|1", "usage"),
         ("--max-entries", "usage"),
         ("--max-bytes=5|t.db", "usage"),
-        ("--budget|1|t.db", "usage"),
+        ("--budget|1|t.db", "16777216 1073741824 t.db"),
         ("t.db|--max-entries|1", "usage"),
         ("t.db|-", "usage"),
         ("-", "usage"),
@@ -175,6 +181,50 @@ fn options_come_first_and_each_once(rt: HostRuntime) -> Result<(), Fail> {
     ];
     for (line, wanted) in cases {
         assert_eq!(rt; ordered(rt.alloc(), line)?.as_str(), wanted);
+    }
+    Ok(())
+}
+
+/// The budget that the words ask for; none where they are in no form.
+fn budgeted(alloc: Global, line: &str) -> Result<Option<u64>, Fail> {
+    let words = words_in(alloc, line)?;
+    match read_options(alloc, words.as_slice()) {
+        Ok(order) => Ok(Some(order.budget)),
+        Err(OptionsFault::Usage) => Ok(None),
+        Err(OptionsFault::Memory) => Err(Fail::from("no memory")),
+    }
+}
+
+#[test]
+fn a_budget_is_a_number_of_units_up_to_ten_to_the_twelfth(rt: HostRuntime) -> Result<(), Fail> {
+    let cases: [(&str, Option<u64>); 24] = [
+        ("t.db", Some(10_000_000)),
+        ("--budget|1|t.db", Some(1)),
+        ("--budget|007|t.db", Some(7)),
+        ("--budget|5|t.db|script", Some(5)),
+        ("--budget|999999999999|t.db", Some(999_999_999_999)),
+        ("--budget|1000000000000|t.db", Some(1_000_000_000_000)),
+        ("--budget|0001000000000000|t.db", Some(1_000_000_000_000)),
+        ("--budget|1000000000001|t.db", None),
+        ("--budget|18446744073709551617|t.db", None),
+        ("--budget|0|t.db", None),
+        ("--budget|000|t.db", None),
+        ("--budget|+5|t.db", None),
+        ("--budget|-5|t.db", None),
+        ("--budget|5 |t.db", None),
+        ("--budget|0x5|t.db", None),
+        ("--budget||t.db", None),
+        ("--budget|--|t.db", None),
+        ("--budget|5", None),
+        ("--budget=5|t.db", None),
+        ("t.db|--budget|5", None),
+        ("--budget|5|--budget|5|t.db", None),
+        ("--budget|5|--max-bytes|3|t.db", Some(5)),
+        ("--max-entries|2|--budget|5|--max-bytes|3|t.db", Some(5)),
+        ("--|--budget|5", Some(10_000_000)),
+    ];
+    for (line, wanted) in cases {
+        assert_eq!(rt; budgeted(rt.alloc(), line)?, wanted);
     }
     Ok(())
 }

@@ -7,6 +7,6 @@ use Rattle.uq_words.proofs.lines.Lines.line_end.Goals as goal
 
 pub returns-clause-place : goal.returns-clause-place
 returns-clause-place c =
-    end_is c.args.self.now.bytes.items c.args.self.now.next c.args.searched c.line_len.result c.requires.within c.requires.none
+    end_is c.args.self.now.bytes.items c.args.begins c.args.searched c.line_len.result c.requires.within c.requires.none
     (c.line_len.ensures.place
-    ∙ ap (position_or_len is_feed) (take_rest c.deref.result.now (c.args.self.now.next + c.args.searched) ∙ ap (drop (c.args.self.now.next + c.args.searched)) c.deref.ensures.value))
+    ∙ ap (position_or_len is_feed) (take_rest c.deref.result.now (c.args.begins + c.args.searched) ∙ ap (drop (c.args.begins + c.args.searched)) c.deref.ensures.value))

@@ -11,15 +11,15 @@ use Rattle.uq_words.proofs.lines.Lines.skip.Goals as goal
 
 pub pieces-init : goal.pieces-init
 pieces-init g c = record {
-  passing = λ none long. passing_here g.I.Source c.args.self.now c.args.input.now none long;
+  passing = λ none long. passing_here g.I.Source c.args.limit c.args.self.now c.args.input.now none long;
   most = omega arith;
   going = going_here g.I.Source c.args.self.now c.args.input.now;
 }
 
 pub returns-then-self-eq0-clause-passes : goal.returns-then-self-eq0-clause-passes
 returns-then-self-eq0-clause-passes g c = λ none long.
-    passes_full g.I.Source c.args.self.now c.clear.new.self c.args.input.now c.pieces.input
-    (passing_still g.I.Source c.args.self.now c.pieces.self c.args.input.now c.pieces.input (c.pieces.invariant.passing none long) c.clear.new.self c.clear.ensures.room)
+    passes_full g.I.Source c.args.limit c.args.self.now c.clear.new.self c.args.input.now c.pieces.input
+    (passing_still g.I.Source c.args.limit c.args.self.now c.pieces.self c.args.input.now c.pieces.input (c.pieces.invariant.passing none long) c.clear.new.self c.clear.ensures.room)
     c.clear.new.self c.if-self-eq0.true
 
 pub returns-then-self-eq0-clause-takes : goal.returns-then-self-eq0-clause-takes
@@ -31,10 +31,10 @@ returns-then-self-eq0-clause-takes g c =
 pub returns-in_err-fill-clause-passes : goal.returns-in_err-fill-clause-passes
 returns-in_err-fill-clause-passes g c =
     let p = err_from_is_err_and c.from_residual.result c.from_residual.ensures.1 in
-    subst (λ (r : Result Step InputFault). Passes g.I.Source r c.args.self.now c.args.input.now c.fill.new.self c.fill.new.input)
+    subst (λ (r : Result Step InputFault). Passes g.I.Source c.args.limit r c.args.self.now c.args.input.now c.fill.new.self c.fill.new.input)
     (sym (p.1 ∙ ap (λ (e : InputFault). Err e) p.2)) (λ none long.
-    passes_fault g.I.Source c.args.self.now c.clear.new.self c.args.input.now c.pieces.input
-    (passing_still g.I.Source c.args.self.now c.pieces.self c.args.input.now c.pieces.input (c.pieces.invariant.passing none long) c.clear.new.self c.clear.ensures.room)
+    passes_fault g.I.Source c.args.limit c.args.self.now c.clear.new.self c.args.input.now c.pieces.input
+    (passing_still g.I.Source c.args.limit c.args.self.now c.pieces.self c.args.input.now c.pieces.input (c.pieces.invariant.passing none long) c.clear.new.self c.clear.ensures.room)
     c.clear.ensures.pending c.fill.new.self c.fill.new.input c.in_err-fill.field-0.0 c.in_err-fill.ensures)
 
 pub returns-in_err-fill-clause-takes : goal.returns-in_err-fill-clause-takes
@@ -47,8 +47,8 @@ returns-in_err-fill-clause-takes g c =
 
 pub returns-then-branch-eq0-clause-passes : goal.returns-then-branch-eq0-clause-passes
 returns-then-branch-eq0-clause-passes g c = λ none long.
-    passes_last g.I.Source c.args.self.now c.clear.new.self c.args.input.now c.pieces.input
-    (passing_still g.I.Source c.args.self.now c.pieces.self c.args.input.now c.pieces.input (c.pieces.invariant.passing none long) c.clear.new.self c.clear.ensures.room)
+    passes_last g.I.Source c.args.limit c.args.self.now c.clear.new.self c.args.input.now c.pieces.input
+    (passing_still g.I.Source c.args.limit c.args.self.now c.pieces.self c.args.input.now c.pieces.input (c.pieces.invariant.passing none long) c.clear.new.self c.clear.ensures.room)
     c.clear.ensures.pending c.fill.new.self c.fill.new.input c.in_ok-fill.field-0 c.in_ok-fill.ensures c.if-branch-eq0.true (let some = c.if-self-eq0.false in omega arith) c.clear.ensures.text
 
 pub returns-then-branch-eq0-clause-takes : goal.returns-then-branch-eq0-clause-takes
@@ -60,8 +60,8 @@ returns-then-branch-eq0-clause-takes g c =
 
 pub returns-then-end-len-clause-passes : goal.returns-then-end-len-clause-passes
 returns-then-end-len-clause-passes g c = λ none long.
-    passes_line g.I.Source c.args.self.now c.clear.new.self c.args.input.now c.pieces.input
-    (passing_still g.I.Source c.args.self.now c.pieces.self c.args.input.now c.pieces.input (c.pieces.invariant.passing none long) c.clear.new.self c.clear.ensures.room)
+    passes_line g.I.Source c.args.limit c.args.self.now c.clear.new.self c.args.input.now c.pieces.input
+    (passing_still g.I.Source c.args.limit c.args.self.now c.pieces.self c.args.input.now c.pieces.input (c.pieces.invariant.passing none long) c.clear.new.self c.clear.ensures.room)
     c.clear.ensures.pending c.fill.new.self c.fill.new.input c.in_ok-fill.field-0 c.in_ok-fill.ensures c.line_end-end.result (text_of c.fill.new.self) c.line_end-end.ensures.place
     (let less = c.if-end-len.true in let all = c.len.ensures in omega arith) (unkept c.fill.new.self (c.in_ok-fill.ensures.kept ∙ c.clear.ensures.text))
 
@@ -90,7 +90,7 @@ returns-then-end-len-clause-shorter g c = λ _.
     let less = c.if-end-len.true in
     let all = c.len.ensures in
     let none = clears c.pieces.self c.clear.new.self c.clear.ensures in
-    let more = most_on g.I.Source c.clear.new.self c.fill.new.self c.pieces.input c.fill.new.input c.in_ok-fill.field-0 c.in_ok-fill.ensures in
+    let more = most_on g.I.Source c.args.limit c.clear.new.self c.fill.new.self c.pieces.input c.fill.new.input c.in_ok-fill.field-0 c.in_ok-fill.ensures in
     let most = c.pieces.invariant.most in
     let here = goes_behind c.fill.new.self.bytes.items c.fill.new.self.next c.line_end-end.result c.fill.new.self.room (omega arith) (omega arith) in
     omega arith
@@ -98,7 +98,7 @@ returns-then-end-len-clause-shorter g c = λ _.
 pub pieces-smaller : goal.pieces-smaller
 pieces-smaller g c =
     let room = c.clear.ensures.room in
-    let less = room_on g.I.Source c.clear.new.self c.fill.new.self c.pieces.input c.fill.new.input c.in_ok-fill.field-0 c.in_ok-fill.ensures (let some = c.if-branch-eq0.false in omega arith) in
+    let less = room_on g.I.Source c.args.limit c.clear.new.self c.fill.new.self c.pieces.input c.fill.new.input c.in_ok-fill.field-0 c.in_ok-fill.ensures (let some = c.if-branch-eq0.false in omega arith) in
     omega arith
 
 pub pieces-preserved : goal.pieces-preserved
@@ -107,13 +107,13 @@ pieces-preserved g c =
     let all = c.len.ensures in
     record {
       passing = λ none long.
-          passing_on g.I.Source c.args.self.now c.clear.new.self c.args.input.now c.pieces.input
-          (passing_still g.I.Source c.args.self.now c.pieces.self c.args.input.now c.pieces.input (c.pieces.invariant.passing none long) c.clear.new.self c.clear.ensures.room)
+          passing_on g.I.Source c.args.limit c.args.self.now c.clear.new.self c.args.input.now c.pieces.input
+          (passing_still g.I.Source c.args.limit c.args.self.now c.pieces.self c.args.input.now c.pieces.input (c.pieces.invariant.passing none long) c.clear.new.self c.clear.ensures.room)
           c.clear.ensures.pending c.fill.new.self c.fill.new.input c.in_ok-fill.field-0 c.in_ok-fill.ensures
           (no_feed_left c.fill.new.self c.line_end-end.result c.line_end-end.ensures.place (omega arith));
       most =
           let none = clears c.pieces.self c.clear.new.self c.clear.ensures in
-          let more = most_on g.I.Source c.clear.new.self c.fill.new.self c.pieces.input c.fill.new.input c.in_ok-fill.field-0 c.in_ok-fill.ensures in
+          let more = most_on g.I.Source c.args.limit c.clear.new.self c.fill.new.self c.pieces.input c.fill.new.input c.in_ok-fill.field-0 c.in_ok-fill.ensures in
           let most = c.pieces.invariant.most in
           omega arith;
       going = going_on g.I.Source c.args.self.now c.args.input.now c.clear.new.self c.pieces.input

@@ -1,13 +1,13 @@
 use Rattle.std.proofs.Common.{◌≡◌, ◌-◌, Result, Err, Ok, length, length-drop, refl, sym, ap, subst, ◌∙◌, arith}
 use Rattle.std.proofs.lemmas.Result.{err_from_is_err_and}
-use Rattle.uq_words.specs.Taking.{Finds, left_of, most_of, pending}
+use Rattle.uq_words.specs.Taking.{FindsWithin, left_of, most_of, pending}
 use Rattle.uq_words.specs.declared.error.InputFault.{InputFault}
 use Rattle.uq_words.specs.declared.lines.Step.{Step}
 use Rattle.uq_words.specs.declared.lines.Step.TheVariants.{Line, Last, TooMuch}
 use Rattle.uq_words.proofs.Advancing.{cuts_last, cuts_line, found_since, most_on, no_feed_left, none_on, room_on, stops_at, stops_full, within_on}
 use Rattle.uq_words.proofs.Pieces.{going_here, going_on, takes_fault, takes_full, takes_last, takes_line, takes_on}
 use Rattle.uq_words.proofs.Shorter.{cuts_shorter}
-use Rattle.uq_words.proofs.lines.Lines.advance.Goals as goal
+use Rattle.uq_words.proofs.lines.Lines.take_line.Goals as goal
 
 pub pieces-init : goal.pieces-init
 pieces-init g c = record {
@@ -20,8 +20,8 @@ pieces-init g c = record {
 
 pub returns-then-end-len-clause-finds : goal.returns-then-end-len-clause-finds
 returns-then-end-len-clause-finds g c =
-    found_since g.I.Source (Ok Line) _ _ _ _ c.cut.new.self c.pieces.input c.pieces.invariant.left c.pieces.invariant.most
-    (cuts_line g.I.Source c.pieces.self c.cut.new.self c.pieces.input c.line_end-end.result c.line_end-end.ensures.place
+    found_since g.I.Source c.args.limit (Ok Line) _ _ _ _ c.cut.new.self c.pieces.input c.pieces.invariant.left c.pieces.invariant.most
+    (cuts_line g.I.Source c.args.limit c.pieces.self c.cut.new.self c.pieces.input c.line_end-end.result c.line_end-end.ensures.place
     (let less = c.if-end-len.true in let all = c.len.ensures in omega arith) c.cut.ensures)
 
 pub returns-then-end-len-clause-takes : goal.returns-then-end-len-clause-takes
@@ -29,25 +29,25 @@ returns-then-end-len-clause-takes g c =
     takes_on g.I.Source c.args.self.now c.args.input.now c.pieces.self c.pieces.input c.pieces.invariant.going (Ok Line) c.cut.new.self c.pieces.input
     (takes_line g.I.Source c.pieces.self c.cut.new.self c.pieces.input c.cut.ensures.room)
 
-pub returns-then-searched-clause-finds : goal.returns-then-searched-clause-finds
-returns-then-searched-clause-finds g c =
+pub returns-then-searched-limit-clause-finds : goal.returns-then-searched-limit-clause-finds
+returns-then-searched-limit-clause-finds g c =
     let past = c.if-end-len.false in
     let all = c.len.ensures in
-    let more = c.if-searched.true in
+    let more = c.if-searched-limit.true in
     let count : length (pending c.pieces.self) ≡ length c.pieces.self.bytes.items - c.pieces.self.next = length-drop c.pieces.self.next c.pieces.self.bytes.items in
-    found_since g.I.Source c.skip.result _ _ _ _ c.skip.new.self c.skip.new.input c.pieces.invariant.left c.pieces.invariant.most
+    found_since g.I.Source c.args.limit c.skip.result _ _ _ _ c.skip.new.self c.skip.new.input c.pieces.invariant.left c.pieces.invariant.most
     (c.skip.ensures.passes (no_feed_left c.pieces.self c.line_end-end.result c.line_end-end.ensures.place (omega arith)) (omega arith))
 
-pub returns-then-searched-clause-takes : goal.returns-then-searched-clause-takes
-returns-then-searched-clause-takes g c =
+pub returns-then-searched-limit-clause-takes : goal.returns-then-searched-limit-clause-takes
+returns-then-searched-limit-clause-takes g c =
     takes_on g.I.Source c.args.self.now c.args.input.now c.pieces.self c.pieces.input c.pieces.invariant.going c.skip.result c.skip.new.self c.skip.new.input c.skip.ensures.takes
 
 pub returns-then-self-eq0-clause-finds : goal.returns-then-self-eq0-clause-finds
 returns-then-self-eq0-clause-finds g c =
     let past = c.if-end-len.false in
     let all = c.len.ensures in
-    found_since g.I.Source (Ok TooMuch) _ _ _ _ c.pieces.self c.pieces.input c.pieces.invariant.left c.pieces.invariant.most
-    (stops_full g.I.Source c.pieces.self c.pieces.input (no_feed_left c.pieces.self c.line_end-end.result c.line_end-end.ensures.place (omega arith)) c.if-self-eq0.true)
+    found_since g.I.Source c.args.limit (Ok TooMuch) _ _ _ _ c.pieces.self c.pieces.input c.pieces.invariant.left c.pieces.invariant.most
+    (stops_full g.I.Source c.args.limit c.pieces.self c.pieces.input (no_feed_left c.pieces.self c.line_end-end.result c.line_end-end.ensures.place (omega arith)) c.if-self-eq0.true)
 
 pub returns-then-self-eq0-clause-takes : goal.returns-then-self-eq0-clause-takes
 returns-then-self-eq0-clause-takes g c =
@@ -59,9 +59,9 @@ returns-in_err-fill-clause-finds g c =
     let p = err_from_is_err_and c.from_residual.result c.from_residual.ensures.1 in
     let past = c.if-end-len.false in
     let all = c.len.ensures in
-    subst (λ (r : Result Step InputFault). Finds g.I.Source r (left_of g.I.Source c.args.self.now c.args.input.now) (most_of c.args.self.now) c.fill.new.self c.fill.new.input)
-    (sym (p.1 ∙ ap (λ (e : InputFault). Err e) p.2)) (found_since g.I.Source (Err c.in_err-fill.field-0.0) _ _ _ _ c.fill.new.self c.fill.new.input c.pieces.invariant.left c.pieces.invariant.most
-    (stops_at g.I.Source c.pieces.self c.fill.new.self c.pieces.input c.fill.new.input c.in_err-fill.field-0.0
+    subst (λ (r : Result Step InputFault). FindsWithin g.I.Source c.args.limit r (left_of g.I.Source c.args.self.now c.args.input.now) (most_of c.args.self.now) c.fill.new.self c.fill.new.input)
+    (sym (p.1 ∙ ap (λ (e : InputFault). Err e) p.2)) (found_since g.I.Source c.args.limit (Err c.in_err-fill.field-0.0) _ _ _ _ c.fill.new.self c.fill.new.input c.pieces.invariant.left c.pieces.invariant.most
+    (stops_at g.I.Source c.args.limit c.pieces.self c.fill.new.self c.pieces.input c.fill.new.input c.in_err-fill.field-0.0
     (no_feed_left c.pieces.self c.line_end-end.result c.line_end-end.ensures.place (omega arith)) c.in_err-fill.ensures))
 
 pub returns-in_err-fill-clause-takes : goal.returns-in_err-fill-clause-takes
@@ -74,8 +74,8 @@ pub returns-then-branch-eq0-clause-finds : goal.returns-then-branch-eq0-clause-f
 returns-then-branch-eq0-clause-finds g c =
     let past = c.if-end-len.false in
     let all = c.len.ensures in
-    found_since g.I.Source (Ok Last) _ _ _ _ c.cut-then-branch-eq0.new.self c.fill.new.input c.pieces.invariant.left c.pieces.invariant.most
-    (cuts_last g.I.Source c.pieces.self c.fill.new.self c.cut-then-branch-eq0.new.self c.pieces.input c.fill.new.input c.in_ok-fill.field-0 c.len-end.result
+    found_since g.I.Source c.args.limit (Ok Last) _ _ _ _ c.cut-then-branch-eq0.new.self c.fill.new.input c.pieces.invariant.left c.pieces.invariant.most
+    (cuts_last g.I.Source c.args.limit c.pieces.self c.fill.new.self c.cut-then-branch-eq0.new.self c.pieces.input c.fill.new.input c.in_ok-fill.field-0 c.len-end.result
     (no_feed_left c.pieces.self c.line_end-end.result c.line_end-end.ensures.place (omega arith)) (let some = c.if-self-eq0.false in omega arith) c.if-branch-eq0.true c.in_ok-fill.ensures
     (let whole = c.len-end.ensures in omega arith) c.cut-then-branch-eq0.ensures)
 
@@ -91,11 +91,11 @@ returns-then-end-len-clause-shorter g c = λ _.
     let less = c.if-end-len.true in
     let all = c.len.ensures in
     let most = c.pieces.invariant.most in
-    let here = cuts_shorter c.pieces.self c.cut.new.self c.line_end-end.result (omega arith) (omega arith) c.cut.ensures in
+    let here = cuts_shorter c.args.limit c.pieces.self c.cut.new.self c.line_end-end.result (omega arith) (omega arith) c.cut.ensures in
     omega arith
 
-pub returns-then-searched-clause-shorter : goal.returns-then-searched-clause-shorter
-returns-then-searched-clause-shorter g c = λ is.
+pub returns-then-searched-limit-clause-shorter : goal.returns-then-searched-limit-clause-shorter
+returns-then-searched-limit-clause-shorter g c = λ is.
     let most = c.pieces.invariant.most in
     let here = c.skip.ensures.shorter is in
     omega arith
@@ -113,7 +113,7 @@ returns-then-branch-eq0-clause-shorter g c = λ is. absurd (cc)
 
 pub pieces-smaller : goal.pieces-smaller
 pieces-smaller g c =
-    room_on g.I.Source c.pieces.self c.fill.new.self c.pieces.input c.fill.new.input c.in_ok-fill.field-0 c.in_ok-fill.ensures (let some = c.if-branch-eq0.false in omega arith)
+    room_on g.I.Source c.args.limit c.pieces.self c.fill.new.self c.pieces.input c.fill.new.input c.in_ok-fill.field-0 c.in_ok-fill.ensures (let some = c.if-branch-eq0.false in omega arith)
 
 pub pieces-preserved : goal.pieces-preserved
 pieces-preserved g c =
@@ -121,11 +121,11 @@ pieces-preserved g c =
     let all = c.len.ensures in
     let every = c.len-in-pieces.ensures in
     record {
-      within = within_on g.I.Source c.pieces.self c.fill.new.self c.pieces.input c.fill.new.input c.in_ok-fill.field-0 c.in_ok-fill.ensures _ (omega arith);
-      none = none_on g.I.Source c.pieces.self c.fill.new.self c.pieces.input c.fill.new.input c.in_ok-fill.field-0 c.in_ok-fill.ensures _ (omega arith)
+      within = within_on g.I.Source c.args.limit c.pieces.self c.fill.new.self c.pieces.input c.fill.new.input c.in_ok-fill.field-0 c.in_ok-fill.ensures _ (omega arith);
+      none = none_on g.I.Source c.args.limit c.pieces.self c.fill.new.self c.pieces.input c.fill.new.input c.in_ok-fill.field-0 c.in_ok-fill.ensures _ (omega arith)
           (no_feed_left c.pieces.self c.line_end-end.result c.line_end-end.ensures.place (omega arith));
       left = c.in_ok-fill.ensures.left ∙ c.pieces.invariant.left;
-      most = most_on g.I.Source c.pieces.self c.fill.new.self c.pieces.input c.fill.new.input c.in_ok-fill.field-0 c.in_ok-fill.ensures ∙ c.pieces.invariant.most;
+      most = most_on g.I.Source c.args.limit c.pieces.self c.fill.new.self c.pieces.input c.fill.new.input c.in_ok-fill.field-0 c.in_ok-fill.ensures ∙ c.pieces.invariant.most;
       going = going_on g.I.Source c.args.self.now c.args.input.now c.pieces.self c.pieces.input c.pieces.invariant.going c.fill.new.self c.fill.new.input c.in_ok-fill.field-0
           c.in_ok-fill.ensures (let some = c.if-branch-eq0.false in omega arith);
     }

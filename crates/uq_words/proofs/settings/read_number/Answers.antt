@@ -2,7 +2,7 @@ use Rattle.std.proofs.Common.{rules, ◌≡◌, ◌+◌, ◌-◌, ◌*◌, lengt
 use Rattle.std.proofs.lemmas.Grind.{common_steps}
 use Rattle.uq_words.specs.Options.{number}
 use Rattle.uq_words.proofs.Numbers.{number_behind, number_exceeds}
-use Rattle.uq_words.proofs.options.read_number.Goals as goal
+use Rattle.uq_words.proofs.settings.read_number.Goals as goal
 
 pub returns-then-value-most : goal.returns-then-value-most
 returns-then-value-most c =

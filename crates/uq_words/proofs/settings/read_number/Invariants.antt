@@ -1,7 +1,7 @@
 use Rattle.std.proofs.Common.{◌≡◌, ◌≤◌, length}
 use Rattle.uq_words.specs.Options.{number}
 use Rattle.uq_words.proofs.Numbers.{number_behind}
-use Rattle.uq_words.proofs.options.read_number.Given as goal
+use Rattle.uq_words.proofs.settings.read_number.Given as goal
 
 abbrev pub decreases-digits : goal.decreases-digits
 decreases-digits l = length l.rest

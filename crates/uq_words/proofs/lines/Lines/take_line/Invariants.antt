@@ -1,7 +1,7 @@
 use Rattle.std.proofs.Common.{◌≡◌, ◌≤◌, length, take}
 use Rattle.uq_words.specs.Lines.{HasNoFeed}
 use Rattle.uq_words.specs.Taking.{Going, left_of, most_of, pending}
-use Rattle.uq_words.proofs.lines.Lines.advance.Given as goal
+use Rattle.uq_words.proofs.lines.Lines.take_line.Given as goal
 
 abbrev pub decreases-pieces : goal.decreases-pieces
 decreases-pieces g l = l.self.room
