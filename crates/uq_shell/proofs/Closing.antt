@@ -51,9 +51,9 @@ module _ {D O : Type 0} (g : disk.Ghosts D) (o : sink.Ghosts O) (at : Progress) 
       (durable : (s : Session Stored) → Tells g old s → LeavesNow g (disk_of g new).now s.present) where
     -- it is committed, or there is nothing to commit
     pub settles_whole : (status : Status) (n : ℕ) → is_begun_of g old ≡ begun → status ≡ status_of at.is_refused → n ≡ at.done + commits_before begun
-        → Settles g o at old new x x (record { status = status; done = n })
+        → Settles g o at old new x x (record { status = status; done = n; meter = at.meter })
     settles_whole status n begun_is status_is count =
-        subst (λ (st : Status). Settles g o at old new x x (record { status = st; done = n })) (sym status_is) (record {
+        subst (λ (st : Status). Settles g o at old new x x (record { status = st; done = n; meter = at.meter })) (sym status_is) (record {
           same_reference = keeps.same_reference;
           status = inl refl;
           anywhere = λ disk_first x0 stands.
@@ -69,7 +69,7 @@ module _ {D O : Type 0} (g : disk.Ghosts D) (o : sink.Ghosts O) (at : Progress) 
           ends = λ entry state place disk_first x0 reached before.
               let done_is : n ≡ at.done + commits_before state.desk.session.begun
               = count ∙ ap (λ (b : Bool). at.done + commits_before b) (sym (reached.tells.begun ∙ begun_is)) in
-              subst (λ (b : Bool). Ends g o entry (at_end state) ⊥ disk_first (disk_of g new).now x0 x (record { status = status_of b; done = n })) reached.refused
+              subst (λ (b : Bool). Ends g o entry (at_end state) ⊥ disk_first (disk_of g new).now x0 x (record { status = status_of b; done = n; meter = at.meter })) reached.refused
               (settled g o entry state at place disk_first old new x0 x reached (stop state.desk.session reached.tells) ⊥ n done_is (does state.desk.session reached.tells refl).1 (durable state.desk.session reached.tells));
           idle = idle;
         })
@@ -82,7 +82,7 @@ module _ {D O : Type 0} (g : disk.Ghosts D) (o : sink.Ghosts O) (at : Progress) 
   rose_by fault unclosed causes (inr by) = let was : closed_of g old ≡ Some by.0 = (causes.closed by.0).0 (ap Err by.1) in absurd (cc)
 
   pub settles_cut : Laws g → (fault : KvFault) (z : O) → closed_of g old ≡ None → HasCauses g {T = Bool} old new (Err fault) → IsAmong (kv.Disk ∷ []) fault
-      → Writes o (some_line at.last (row Disk).text) x z → o.faults x ≤ o.faults z → Settles g o at old new x z (record { status = Disk; done = at.done })
+      → Writes o (some_line at.last (row Disk).text) x z → o.faults x ≤ o.faults z → Settles g o at old new x z (record { status = Disk; done = at.done; meter = at.meter })
   settles_cut laws fault z unclosed causes among line later =
       let rose = rose_by fault unclosed causes among in
       let disk_later = causes.later in

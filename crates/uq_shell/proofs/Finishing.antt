@@ -70,11 +70,11 @@ complete_by run TooMuchInput early disk stream none much = inl (much refl)
 module _ {D O : Type 0} (g : disk.Ghosts D) (o : sink.Ghosts O) (entry : Stored) (run : Outcome) (source_rose : Type 0) (at : Progress) (disk_first : D) (kv : Kv D g) (x0 : O) where
   pub ends_at : (status : Status) (x z : O) → CutShort g o entry run.events (At status) at disk_first kv x0 x → Writes o (some_line at.last (row status).text) x z
       → IsTrue (is_early status) → (status ≡ Stream → source_rose) → (status ≡ Disk → Rose (g.faults disk_first) (g.faults (disk_of g kv).now)) → (status ≡ NotDatabase → ⊥)
-      → (status ≡ TooMuchInput → (run.status ≡ TooMuchInput) × (at.done ≡ length run.events))
-      → Ends g o entry run source_rose disk_first (disk_of g kv).now x0 z (record { status = status; done = at.done })
+      → (status ≡ TooMuchInput → (run.status ≡ TooMuchInput) × (at.done ≡ length run.events) × (at.meter ≡ run.units))
+      → Ends g o entry run source_rose disk_first (disk_of g kv).now x0 z (record { status = status; done = at.done; meter = at.meter })
   ends_at status x z cut line early source rose none much = record {
-    meets = meets_at o x0 x z (cut.quiet status refl) run source_rose at.done status (cut.written status refl) source
-        (λ whole. let is : status ≡ TooMuchInput = early_whole status early whole in (is ∙ sym (much is).0, (much is).1)) none at.last (cut.last status refl) line;
+    meets = meets_at o x0 x z (cut.quiet status refl) run source_rose at.done at.meter status (cut.written status refl) source
+        (λ whole. let is : status ≡ TooMuchInput = early_whole status early whole in (is ∙ sym (much is).0, (much is).1, (much is).2)) none at.last (cut.last status refl) line;
     recovers = record { any_moment = cut.any_moment; at_exit = cut.at_exit };
     holds = λ answered. let told = cut.tells answered in subst (λ (saved : Stored). Holds g (disk_of g kv).now saved) told.2 (holds_saved g kv told.0 told.1);
     complete = λ still quiet.
@@ -82,11 +82,11 @@ module _ {D O : Type 0} (g : disk.Ghosts D) (o : sink.Ghosts O) (entry : Stored)
   }
 
   pub ends_sink : (z : O) → CutShort g o entry run.events Sink at disk_first kv x0 z
-      → Ends g o entry run source_rose disk_first (disk_of g kv).now x0 z (record { status = Stream; done = at.done })
+      → Ends g o entry run source_rose disk_first (disk_of g kv).now x0 z (record { status = Stream; done = at.done; meter = at.meter })
   ends_sink z cut =
       let part = cut.part refl in
       record {
-        meets = meets_within o x0 z run source_rose at.done part;
+        meets = meets_within o x0 z run source_rose at.done at.meter part;
         recovers = record { any_moment = cut.any_moment; at_exit = cut.at_exit };
         holds = λ answered. let told = cut.tells answered in subst (λ (saved : Stored). Holds g (disk_of g kv).now saved) told.2 (holds_saved g kv told.0 told.1);
         complete = λ still quiet. absurd (quiet.sink part.rose);
@@ -96,7 +96,7 @@ module _ {D O : Type 0} (g : disk.Ghosts D) (o : sink.Ghosts O) (entry : Stored)
 
 module _ {D O : Type 0} (g : disk.Ghosts D) (o : sink.Ghosts O) (none source_rose : Type 0) (at : Progress) (disk_first disk_now : D) (x0 : O) where
   pub anywhere_at : (status : Status) (x z : O) → Stops g o (At status) at disk_first disk_now x0 x → Writes o (some_line at.last (row status).text) x z → o.faults x ≤ o.faults z
-      → IsTrue (is_early status) → (status ≡ Stream → source_rose) → (status ≡ NotDatabase → none) → EndsAnywhere g o none source_rose disk_first disk_now x0 z (record { status = status; done = at.done })
+      → IsTrue (is_early status) → (status ≡ Stream → source_rose) → (status ≡ NotDatabase → none) → EndsAnywhere g o none source_rose disk_first disk_now x0 z (record { status = status; done = at.done; meter = at.meter })
   anywhere_at status x z stops line later early source cause =
       let before = stops.sink_later in
       record {
@@ -108,7 +108,7 @@ module _ {D O : Type 0} (g : disk.Ghosts D) (o : sink.Ghosts O) (none source_ros
         kept = stops.kept;
       }
 
-  pub anywhere_sink : (z : O) → Stops g o Sink at disk_first disk_now x0 z → EndsAnywhere g o none source_rose disk_first disk_now x0 z (record { status = Stream; done = at.done })
+  pub anywhere_sink : (z : O) → Stops g o Sink at disk_first disk_now x0 z → EndsAnywhere g o none source_rose disk_first disk_now x0 z (record { status = Stream; done = at.done; meter = at.meter })
   anywhere_sink z stops = record {
     causes = record { disk = λ is. absurd (cc); stream = λ _. inr (stops.rose refl); not_database = λ is. absurd (cc) };
     not_usage = λ is. cc;

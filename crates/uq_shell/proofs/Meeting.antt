@@ -21,10 +21,10 @@ module _ {O : Type 0} (o : Ghosts O) (x0 x z : O) (quiet : o.faults x ≡ o.faul
   pub rose_since : SinkRose o x z → SinkRose o x0 z
   rose_since rose = rw (← quiet) rose
 
-  module _ (run : Outcome) (source_rose : Type 0) (n : ℕ) (status : Status) (put : Grows (output n run.events) (o.written x0) (o.written x))
-      (source : status ≡ Stream → source_rose) (exact : IsTrue (row status).is_whole → (status ≡ run.status) × (n ≡ length run.events)) (none : status ≡ NotDatabase → ⊥) where
+  module _ (run : Outcome) (source_rose : Type 0) (n units : ℕ) (status : Status) (put : Grows (output n run.events) (o.written x0) (o.written x))
+      (source : status ≡ Stream → source_rose) (exact : IsTrue (row status).is_whole → (status ≡ run.status) × (n ≡ length run.events) × (units ≡ run.units)) (none : status ≡ NotDatabase → ⊥) where
     -- the line of the status stands behind the events that are done
-    meets_line : Writes o (ending_line (output n run.events) status) x z → Meets o run source_rose (record { status = status; done = n }) x0 z
+    meets_line : Writes o (ending_line (output n run.events) status) x z → Meets o run source_rose (record { status = status; done = n; meter = units }) x0 z
     meets_line (inl all) =
         let line : List ℕ = ending_line (output n run.events) status in
         record {
@@ -48,7 +48,7 @@ module _ {O : Type 0} (o : Ghosts O) (x0 x z : O) (quiet : o.faults x ≡ o.faul
         }
 
     pub meets_at : (last : Option ℕ) → last_byte (output n run.events) ≡ last → Writes o (some_line last (row status).text) x z
-        → Meets o run source_rose (record { status = status; done = n }) x0 z
+        → Meets o run source_rose (record { status = status; done = n; meter = units }) x0 z
     meets_at last is line = meets_line (subst (λ (it : Option ℕ). Writes o (some_line it (row status).text) x z) (sym is) line)
 
   -- the same of replies, whatever they mean
@@ -83,8 +83,8 @@ module _ {O : Type 0} (o : Ghosts O) (x0 x z : O) (quiet : o.faults x ≡ o.faul
 -- ---- the sink failed within an event
 
 module _ {O : Type 0} (o : Ghosts O) (x0 z : O) where
-  pub meets_within : (run : Outcome) (source_rose : Type 0) (n : ℕ) → IsPartOf o run.events n x0 z → Meets o run source_rose (record { status = Stream; done = n }) x0 z
-  meets_within run source_rose n part = record {
+  pub meets_within : (run : Outcome) (source_rose : Type 0) (n units : ℕ) → IsPartOf o run.events n x0 z → Meets o run source_rose (record { status = Stream; done = n; meter = units }) x0 z
+  meets_within run source_rose n units part = record {
     bytes = output n run.events ++ take part.count part.event;
     grows = part.written;
     followed = record {
@@ -112,9 +112,9 @@ no_line written true = refl
 no_line written false = refl
 
 module _ {O : Type 0} (o : Ghosts O) (x0 z : O) where
-  pub meets_whole : (run : Outcome) (source_rose : Type 0) (n : ℕ) (is_refusal : Bool) → Grows (output n run.events) (o.written x0) (o.written z) → run.status ≡ status_of is_refusal → n ≡ length run.events
-      → Meets o run source_rose (record { status = status_of is_refusal; done = n }) x0 z
-  meets_whole run source_rose n is_refusal put status all =
+  pub meets_whole : (run : Outcome) (source_rose : Type 0) (n units : ℕ) (is_refusal : Bool) → Grows (output n run.events) (o.written x0) (o.written z) → run.status ≡ status_of is_refusal → n ≡ length run.events → units ≡ run.units
+      → Meets o run source_rose (record { status = status_of is_refusal; done = n; meter = units }) x0 z
+  meets_whole run source_rose n units is_refusal put status all taken =
       let line : output n run.events ≡ output n run.events ++ ending_line (output n run.events) (status_of is_refusal)
       = sym (append-nil (output n run.events)) ∙ ap (λ (l : List ℕ). output n run.events ++ l) (sym (no_line (output n run.events) is_refusal)) in
       record {
@@ -124,7 +124,7 @@ module _ {O : Type 0} (o : Ghosts O) (x0 z : O) where
           whole = λ _. line;
           cut = λ _. inr (record { count = 0; prefix = sym (append-nil (output n run.events)); source = λ is. absurd (not_stream is_refusal is) });
         };
-        exact = λ _. (sym status, all);
+        exact = λ _. (sym status, all, taken);
         is_database = λ is. not_none is_refusal is;
       }
     where

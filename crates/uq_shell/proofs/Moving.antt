@@ -38,6 +38,7 @@ state_behind state said after = record {
   events = state.events ++ events_of (written_last state) state.desk.session said;
   desk = after;
   is_refused = state.is_refused || said.is_refusal;
+  units = state.units;
 }
 
 -- what it saves: what is there, where a commit stands before its reply, or else nothing
@@ -86,7 +87,7 @@ module _ {D O : Type 0} (g : disk.Ghosts D) (o : sink.Ghosts O) (entry : Stored)
 
   -- the reply is put out
   pub reached_on : (now : Progress) (place_now : Option (List ℕ)) (z : O) → place_now ≡ after.cursor → Tells g new after.session
-      → now ≡ record { done = was.done + commits_before said.commits + 1; last = Some 0x0a; is_refused = was.is_refused || said.is_refusal }
+      → now ≡ record { done = was.done + commits_before said.commits + 1; last = Some 0x0a; is_refused = was.is_refused || said.is_refusal; meter = was.meter }
       → Grows (line_after was.last said.text) (o.written x) (o.written z) → o.faults z ≡ o.faults x → Reached g o entry (state_behind state said after) now place_now disk_first new x0 z
   reached_on now place_now z cursor tells progress written quiet =
       let count : length events ≡ length state.events + commits_before said.commits + 1 = told_count state.events said.commits state.desk.session.present line in
@@ -98,6 +99,7 @@ module _ {D O : Type 0} (g : disk.Ghosts D) (o : sink.Ghosts O) (entry : Stored)
             ap last_byte (told_output state.events said.commits state.desk.session.present line) ∙ line_ends (flat_map bytes_of state.events) (written_last state) said.text
             ∙ sym (ap (λ (it : Progress). it.last) progress);
         refused = ap (λ (b : Bool). b || said.is_refusal) reached.refused ∙ sym (ap (λ (it : Progress). it.is_refused) progress);
+        units = reached.units ∙ sym (ap (λ (it : Progress). it.meter) progress);
         tells = tells;
         cursor = cursor;
         saved = saved_now;
@@ -174,7 +176,7 @@ module _ {D O : Type 0} (g : disk.Ghosts D) (o : sink.Ghosts O) (entry : Stored)
   saved_half now done = sym (ap (last_commit entry) (half now done) ∙ half_last entry state.events said.commits state.desk.session.present ∙ saved_by)
 
   pub cut_by_sink : (now : Progress) (z : O) (count : ℕ) → Tells g new after.session
-      → now ≡ record { done = was.done + commits_before said.commits; last = was.last; is_refused = was.is_refused }
+      → now ≡ record { done = was.done + commits_before said.commits; last = was.last; is_refused = was.is_refused; meter = was.meter }
       → Grows (take count (line_after was.last said.text)) (o.written x) (o.written z) → SinkRose o x z → CutShort g o entry events Sink now disk_first new x0 z
   cut_by_sink now z count tells progress written rose =
       let all : length events ≡ length state.events + commits_before said.commits + 1 = told_count state.events said.commits state.desk.session.present line in

@@ -2,7 +2,7 @@
 use Rattle.std.proofs.Common.{◌≡◌, ℕ, Bool, true, false, if◌then◌else◌, List, ◌++◌, Option, Some, None, Result, Ok, Err, refl, sym, ap, ◌∙◌}
 use Rattle.std.specs.FinMap.{contains_key, get, insert, remove}
 use Rattle.uq_hash.specs.Looks.{value_or_none}
-use Rattle.uq_model.specs.Session.{Call, Session, opened, with_present}
+use Rattle.uq_model.specs.Session.{Call, Session, opened, rolled_back, with_present}
 use Rattle.uq_model.specs.declared.limits.Limits.{Limits}
 use Rattle.uq_kv.specs.Calls.{appends, behind, deletes, fetches, puts, stores, takes}
 use Rattle.uq_kv.specs.Cursor.{data_at, deletes_at, is_valid, key_at, sought}
@@ -14,6 +14,7 @@ use Rattle.uq_kv.specs.declared.error.KvFault.TheVariants.{Full, NoEntry, NotFou
 use Rattle.uq_kv.specs.declared.space.Space.TheVariants.{Keys}
 use Rattle.uq_json.specs.Quote.{quoted}
 use Rattle.uq_shell.specs.Answers.{request_of}
+use Rattle.uq_shell.specs.Failures.{aborts}
 use Rattle.uq_shell.specs.Commands.{Desk, refused_by, said_at, saying, says_key, says_truth}
 use Rattle.uq_shell.specs.Replies.{Said, says, says_ok, taken_as}
 use Rattle.uq_shell.specs.declared.command.Command.{Command}
@@ -77,6 +78,10 @@ rolled_back_saved : (b : Bool) (s : Session Stored) → (if b then opened s.save
 rolled_back_saved true s = refl
 rolled_back_saved false s = refl
 
+failed_saved : (b : Bool) (s : Session Stored) → (if b then rolled_back s else s).saved ≡ s.saved
+failed_saved true s = rolled_back_saved s.begun s
+failed_saved false s = refl
+
 -- ---- the cursor's
 
 key_saved : (found : Option (List ℕ)) (s : Session Stored) → s.saved ≡ (if (says_key found).commits then s.present else s.saved)
@@ -119,3 +124,4 @@ saves_by command.Drop limits desk = kept_by (λ _. says_ok) (deletes_at desk.cur
 saves_by command.Valid limits desk = kept_by says_truth (is_valid desk.cursor) desk.session truth_none refl
 saves_by command.Reset limits desk = refl
 saves_by (command.Refused refusal) limits desk = refl
+saves_by (command.Failed failure) limits desk = failed_saved (aborts failure) desk.session

@@ -84,7 +84,7 @@ module _ {D O : Type 0} (g : disk.Ghosts D) (o : sink.Ghosts O) (entry : Stored)
 
   -- what is begun is committed
   pub settled : (source_rose : Type 0) (n : ℕ) → n ≡ at.done + commits_before state.desk.session.begun → Tells g new (committed state.desk.session) → LeavesNow g (disk_of g new).now state.desk.session.present
-      → Ends g o entry (ended_at state) source_rose disk_first (disk_of g new).now x0 x (record { status = status_of state.is_refused; done = n })
+      → Ends g o entry (ended_at state) source_rose disk_first (disk_of g new).now x0 x (record { status = status_of state.is_refused; done = n; meter = at.meter })
   settled source_rose n is tells now =
       let count = count_is in
       let whole : take n events ≡ events = take_all n events (omega arith) in
@@ -93,7 +93,7 @@ module _ {D O : Type 0} (g : disk.Ghosts D) (o : sink.Ghosts O) (entry : Stored)
       = sym (ap (last_commit entry) whole ∙ half_last entry state.events state.desk.session.begun state.desk.session.present ∙ present_is) in
       let saved : (committed state.desk.session).saved ≡ last_commit entry (take n events) = committed_is state.desk.session.begun state.desk.session reached.tells.idle ∙ last in
       record {
-        meets = meets_whole o x0 x (ended_at state) source_rose n state.is_refused (subst (λ (l : List ℕ). Grows l (o.written x0) (o.written x)) (sym put) reached.written) refl (is ∙ sym count);
+        meets = meets_whole o x0 x (ended_at state) source_rose n at.meter state.is_refused (subst (λ (l : List ℕ). Grows l (o.written x0) (o.written x)) (sym put) reached.written) refl (is ∙ sym count) (sym reached.units);
         recovers = record {
           any_moment = moments (n + 1) (omega arith);
           at_exit = λ files may. record { stored = state.desk.session.present; acknowledged = Last last; recovers = now files may };

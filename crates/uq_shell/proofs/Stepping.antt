@@ -29,6 +29,7 @@ use Rattle.uq_shell.specs.Commands.{Request, beside, commits_one, goes_to, place
 use Rattle.uq_shell.specs.Moves.{Shows, key_shown}
 use Rattle.uq_shell.specs.Replies.{Said, said_in, says}
 use Rattle.uq_shell.specs.declared.answering.Answer.{Answer}
+use Rattle.uq_shell.specs.declared.reply.Reply.TheVariants as reply
 use Rattle.uq_shell.specs.declared.status.Status.{Status}
 use Rattle.uq_shell.specs.declared.status.Status.TheVariants.{Disk, NotDatabase, Memory}
 use Rattle.uq_shell.proofs.Alike.{alike_here, still_here}
@@ -237,3 +238,23 @@ leaves_here g laws it asked was answer = record {
   where
     no_error : (answer : Answer) (status : Status) → ◌≡◌ {A = Result Answer Status} (Ok answer) (Err status) → ⊥
     no_error answer status is = cc
+
+-- a script that was not run makes no call either, and there may be no memory for its reply
+pub leaves_unrun : {D : Type 0} (g : Ghosts D) (laws : Laws g) (it : Kv D g) (asked : Request) (was : Option (List ℕ)) (said : Said) (result : Result Answer Status) → SaysBy {T = Unit {0}} (λ _. said) (Ok tt) result
+    → Leaves g {T = Answer} asked it it was result
+leaves_unrun g laws it asked was said (Ok answer) says_it = leaves_here g laws it asked was answer
+leaves_unrun g laws it asked was said (Err status) says_it =
+    let here = leaves_here g laws it asked was (record { reply = reply.Ok; commits = false }) in
+    let memory : status ≡ Memory = elim says_it.ends [ inl is ↦ is | inr other ↦ absurd (cc) ] in
+    record {
+      same_reference = refl;
+      limits = refl;
+      stop = here.stop;
+      still = here.still;
+      kept = here.kept;
+      idle = here.idle;
+      later = omega arith;
+      disk = λ is. absurd (let same : status ≡ Disk = cc in let both : Memory ≡ Disk = sym memory ∙ same in cc);
+      corrupt = λ is. absurd (let same : status ≡ NotDatabase = cc in let both : Memory ≡ NotDatabase = sym memory ∙ same in cc);
+      others = inr (inr memory);
+    }

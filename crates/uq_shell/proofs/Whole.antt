@@ -9,7 +9,6 @@ use Rattle.uq_outside.specs.declared.sink.Sink as sink
 use Rattle.uq_outside.specs.declared.source.Source as source
 use Rattle.uq_outside.specs.Since.{Laws}
 use Rattle.uq_journal.specs.Calls.{IsStill, KeepsRecovered}
-use Rattle.uq_model.specs.declared.limits.Limits.{Limits}
 use Rattle.uq_kv.specs.Holds.{HasShape, Holds, HoldsNone}
 use Rattle.uq_kv.specs.Opening.{Finds}
 use Rattle.uq_kv.specs.Stored.{Stored}
@@ -21,16 +20,18 @@ use Rattle.uq_words.specs.Texts.{AnswersAsked, asked_by, texts, texts_of}
 use Rattle.uq_words.specs.declared.error.OptionsFault.{OptionsFault}
 use Rattle.uq_words.specs.declared.error.OptionsFault.TheVariants as options
 use Rattle.uq_words.specs.declared.options.Order.{Order}
+use Rattle.uq_shell.specs.Carries.{ReadsIn, reads_input}
 use Rattle.uq_shell.specs.Commands.{request}
-use Rattle.uq_shell.specs.Ends.{Ends, FindsWhatIsThere, IsUnderWay, RunsOver, Writes}
+use Rattle.uq_shell.specs.Ends.{Ends, EndsBehind, FindsWhatIsThere, IsUnderWay, RunsOver, Writes}
 use Rattle.uq_shell.specs.Followed.{some_line}
 use Rattle.uq_shell.specs.Headline.{HoldsLast, IsComplete, KeepsFilesAtGate, Meets, Recovers}
 use Rattle.uq_shell.specs.Obeys.{at_start}
 use Rattle.uq_shell.specs.Replies.{status_at_opening, status_of_words}
 use Rattle.uq_shell.specs.Run.{Outcome}
 use Rattle.uq_shell.specs.Statuses.{row}
-use Rattle.uq_shell.specs.Stream.{followed, run_in, run_within, start}
-use Rattle.uq_shell.specs.Within.{ReadsInput, ReadsOnly, RunsAnywhere, RunsOverStore}
+use Rattle.uq_shell.specs.Stream.{Mode, OfLines, OfScript, OfWords, mode_of, run_by, run_in, run_within, start, terms_in}
+use Rattle.uq_shell.specs.Verdicts.{IsRight, Judge}
+use Rattle.uq_shell.specs.Within.{OfMode, ReadsInput, ReadsOnly, RunsAnywhere, RunsOverStore}
 use Rattle.uq_shell.specs.declared.ended.Ended.{Ended}
 use Rattle.uq_shell.specs.declared.progress.Progress.{Progress}
 use Rattle.uq_shell.specs.declared.status.Status.{Status}
@@ -94,19 +95,21 @@ module _ {D I O : Type 0} (g : disk.Ghosts D) (i : source.Ghosts I) (o : sink.Gh
   not_streaming : status ≡ Stream → ⊥
   not_streaming is = let never = unopened_only status Stream unopened is in cc
 
-  pub unopened_anywhere : RunsAnywhere g i o words most old new input input x z (record { status = status; done = 0 })
+  not_done : (status ≡ Done) ⊎ (status ≡ Refused) → ⊥
+  not_done (inl done) = let never = unopened_only status Done unopened done in cc
+  not_done (inr refused) = let never = unopened_only status Refused unopened refused in cc
+
+  pub unopened_anywhere : RunsAnywhere g i o words most old new input input x z (record { status = status; done = 0; meter = 0 })
   unopened_anywhere = record {
     causes = record { disk = rose; stream = λ is. absurd (not_streaming is); not_database = none };
     usage = usage;
     form = form;
     untouched = untouched;
     input = record {
-      unread = λ _. refl;
+      unread = λ _ _. refl;
       later = omega arith;
-      whole = λ _ is. elim is [
-        | inl done ↦ absurd (let never = unopened_only status Done unopened done in cc)
-        | inr refused ↦ absurd (let never = unopened_only status Refused unopened refused in cc)
-      ];
+      whole = λ _ is. absurd (not_done is);
+      script = λ _ is. absurd (not_done is);
       too_much = λ is. absurd (let never = unopened_only status TooMuchInput unopened is in cc);
     };
     counts = record { disk = disk_later; sink = later };
@@ -120,25 +123,26 @@ module _ {D I O : Type 0} (g : disk.Ghosts D) (i : source.Ghosts I) (o : sink.Gh
   }
 
   -- what the words mean, where they are in no form
-  usage_run : (bytes : List ℕ) (entry : Stored) (count : ℕ) → status ≡ Usage → run_within (texts words) count bytes entry ≡ record { events = []; status = Usage }
-  usage_run bytes entry count is = ap (λ (asked : Option Asked). run_in asked count bytes entry) (usage is)
+  usage_run : (judge : Judge) (bytes : List ℕ) (entry : Stored) (count : ℕ) → status ≡ Usage → run_within judge (texts words) count bytes entry ≡ record { events = []; status = Usage; units = 0 }
+  usage_run judge bytes entry count is = ap (λ (asked : Option Asked). run_in judge asked count bytes entry) (usage is)
 
   no_database : (entry : Stored) → Holds g old entry → status ≡ NotDatabase → ⊥
   no_database entry holds is = none is holds.files holds.told entry holds.recovers
 
-  pub unopened_store : RunsOverStore g i o words most old new input input x z (record { status = status; done = 0 })
+  pub unopened_store : RunsOverStore g i o words most old new input input x z (record { status = status; done = 0; meter = 0 })
   unopened_store = record {
-    headline = λ bytes entry reads holds.
-        meets_at o x x z refl (run_within (texts words) most bytes entry) _ 0 status (grows_nothing (o.written x)) (λ is. absurd (not_streaming is))
+    headline = λ judge right bytes entry reads holds.
+        meets_at o x x z refl (run_within judge (texts words) most bytes entry) _ 0 0 status (grows_nothing (o.written x)) (λ is. absurd (not_streaming is))
         (λ whole.
         let is : status ≡ Usage = unopened_whole status unopened whole in
-        (is ∙ sym (ap (λ (r : Outcome). r.status) (usage_run bytes entry most is)), sym (ap (λ (r : Outcome). length r.events) (usage_run bytes entry most is))))
+        let run = usage_run judge bytes entry most is in
+        (is ∙ sym (ap (λ (r : Outcome). r.status) run), sym (ap (λ (r : Outcome). length r.events) run), sym (ap (λ (r : Outcome). r.units) run)))
         (no_database entry holds) None refl line;
-    stopped = λ bytes entry reads holds. recovers_refused g laws old new entry (run_within (texts words) most bytes entry) holds kept;
-    stored = λ bytes entry reads holds answered. absurd (unopened_answered status unopened answered);
-    behind = λ bytes entry reads holds is. absurd (not_streaming is);
-    complete = λ bytes entry reads holds still quiet.
-        unopened_complete (run_within (texts words) most bytes entry) status unopened (λ is. is ∙ sym (ap (λ (r : Outcome). r.status) (usage_run bytes entry most is)))
+    stopped = λ judge right bytes entry reads holds. recovers_refused g laws old new entry (run_within judge (texts words) most bytes entry) holds kept;
+    stored = λ judge right bytes entry reads holds answered. absurd (unopened_answered status unopened answered);
+    behind = λ judge right bytes entry reads holds is. absurd (not_streaming is);
+    complete = λ judge right bytes entry reads holds still quiet.
+        unopened_complete (run_within judge (texts words) most bytes entry) status unopened (λ is. is ∙ sym (ap (λ (r : Outcome). r.status) (usage_run judge bytes entry most is)))
         (λ is. quiet.disk (rose is)) (no_database entry holds);
   }
 
@@ -147,31 +151,37 @@ module _ {D I O : Type 0} (g : disk.Ghosts D) (i : source.Ghosts I) (o : sink.Gh
 module _ {D I O : Type 0} (g : disk.Ghosts D) (i : source.Ghosts I) (o : sink.Ghosts O) (laws : Laws g) (words : List (String Global)) (most : ℕ) (order : Order) (ready : Ready) (old mid new : D) (in_old in_new : I) (x z : O) (ended : Ended)
     (read : order_of_words (texts words) ≡ Some (asked_by order)) (found : ForSome (g.content old) (FindsWhatIsThere g ready mid)) (shape : ForSome (g.content old) HasShape)
     (disk_later : g.faults old ≤ g.faults mid) (kept : KeepsRecovered g old mid) (gate : KeepsFilesAtGate g old mid)
-    (runs : RunsOver g i o (Finds g ready mid) (record { entries = order.max_entries; bytes = order.max_bytes }) (texts_of order.words) most mid new in_old in_new x z ended) where
-  abbrev limits : Limits
-  limits = record { entries = order.max_entries; bytes = order.max_bytes }
+    (runs : RunsOver g i o (Finds g ready mid) (terms_in (asked_by order)) (mode_of (texts_of order.words)) most mid new in_old in_new x z ended) where
+  abbrev mode : Mode
+  mode = mode_of (texts_of order.words)
 
   -- the words are a command, or none
   same_order : (asked : Asked) → order_of_words (texts words) ≡ Some asked → asked ≡ asked_by order
   same_order asked is = let same : Some asked ≡ Some (asked_by order) = sym is ∙ read in cc
 
-  input_read : texts_of order.words ≡ [] → ReadsInput (texts words)
-  input_read none = (asked_by order, read, none)
+  -- what the words make of the input
+  mode_read : (P : Mode → Type 0) → P mode → OfMode (texts words) P
+  mode_read P is = (asked_by order, read, is)
 
-  none_asked : ReadsInput (texts words) → texts_of order.words ≡ []
-  none_asked input = sym (ap (λ (asked : Asked). asked.words) (same_order input.0 input.1)) ∙ input.2
+  mode_asked : (P : Mode → Type 0) → OfMode (texts words) P → P mode
+  mode_asked P asked = subst (λ (a : Asked). P (mode_of a.words)) (same_order asked.0 asked.1) asked.2
 
-  command : ReadsOnly (texts words) → (name : List ℕ) × (others : List (List ℕ)) × (texts_of order.words ≡ name ∷ others) × ((request (name ∷ others)).writes ≡ false)
-  command reads = (reads.1, reads.2, sym (ap (λ (asked : Asked). asked.words) (same_order reads.0 reads.3)) ∙ reads.4, reads.5)
-
-  run_is : (entry : Stored) (count : ℕ) (bytes : List ℕ) → run_within (texts words) count bytes entry ≡ followed limits (start entry) (texts_of order.words) count bytes
-  run_is entry count bytes = ap (λ (asked : Option Asked). run_in asked count bytes entry) read
+  run_is : (judge : Judge) (entry : Stored) (count : ℕ) (bytes : List ℕ) → run_within judge (texts words) count bytes entry ≡ run_by judge (terms_in (asked_by order)) (start entry) mode count bytes
+  run_is judge entry count bytes = ap (λ (asked : Option Asked). run_in judge asked count bytes entry) read
 
   not_none : order_of_words (texts words) ≡ None → ⊥
   not_none is = let same : Some (asked_by order) ≡ None = sym read ∙ is in cc
 
   still_read : ReadsOnly (texts words) → IsStill g mid new
-  still_read reads = let asked = command reads in runs.reads asked.0 asked.1 asked.2 (ap (λ (w : List (List ℕ)). (request w).writes) asked.2 ∙ asked.3)
+  still_read reads =
+      let asked = mode_asked (λ (m : Mode). (command : List (List ℕ)) × (m ≡ OfWords command) × ((request command).writes ≡ false)) reads in
+      runs.reads asked.0 asked.1 asked.2
+
+  -- words that read no input
+  unread_mode : (m : Mode) → (IsTrue (reads_input m) → ⊥) → reads_input m ≡ false
+  unread_mode OfLines unread = absurd (unread refl)
+  unread_mode OfScript unread = absurd (unread refl)
+  unread_mode (OfWords command) unread = refl
 
   pub opened_anywhere : RunsAnywhere g i o words most old new in_old in_new x z ended
   opened_anywhere =
@@ -187,14 +197,15 @@ module _ {D I O : Type 0} (g : disk.Ghosts D) (i : source.Ghosts I) (o : sink.Gh
         form = λ is. absurd (not_none is);
         untouched = λ is. absurd (not_none is);
         input = record {
-          unread = λ no. runs.input.unread (λ none. no (input_read none));
+          unread = λ unlined unread. runs.input.unread (λ is. unlined (mode_read (λ (m : Mode). m ≡ OfLines) is)) (λ is. unread (mode_read (λ (m : Mode). m ≡ OfScript) is));
           later = runs.input.later;
-          whole = λ reads. runs.input.whole (none_asked reads);
+          whole = λ reads. runs.input.whole (mode_asked (λ (m : Mode). m ≡ OfLines) reads);
+          script = λ reads. runs.input.script (mode_asked (λ (m : Mode). m ≡ OfScript) reads);
           too_much = runs.input.too_much;
         };
         counts = record { disk = omega arith; sink = counts.sink };
         line = runs.anywhere.line;
-        first = λ no. runs.first (λ none. no (input_read none));
+        first = λ unread. runs.first (unread_mode mode (λ is. unread (mode_read (λ (m : Mode). IsTrue (reads_input m)) is)));
         shape = λ _. shape;
         foreign = λ no. absurd (no shape);
         still = λ nothing. kept_alike g laws old mid new kept (runs.anywhere.kept nothing);
@@ -203,39 +214,49 @@ module _ {D I O : Type 0} (g : disk.Ghosts D) (i : source.Ghosts I) (o : sink.Gh
       }
 
   -- what a run over the store means and leaves
-  module _ (bytes : List ℕ) (entry : Stored) (reads : ReadsInput (texts words) → i.left in_old ≡ Some bytes) (holds : Holds g old entry) where
+  module _ (judge : Judge) (right : IsRight judge) (bytes : List ℕ) (entry : Stored) (reads : ReadsInput (texts words) → i.left in_old ≡ Some bytes) (holds : Holds g old entry) where
+    abbrev run : ℕ → List ℕ → Outcome
+    run = run_by judge (terms_in (asked_by order)) (start entry) mode
+
     found_here : Finds g ready mid entry
     found_here = found holds.files holds.told entry holds.recovers
 
-    ends_here : Ends g o entry (followed limits (start entry) (texts_of order.words) most bytes) (Rose (i.faults in_old) (i.faults in_new)) mid new x z ended
-    ends_here = runs.ends entry bytes found_here (λ none. reads (input_read none))
+    reads_here : ReadsIn i mode in_old bytes
+    reads_here is = reads (mode_read (λ (m : Mode). IsTrue (reads_input m)) is)
 
-    back : (P : Outcome → Type 0) → P (followed limits (start entry) (texts_of order.words) most bytes) → P (run_within (texts words) most bytes entry)
-    back P is = subst P (sym (run_is entry most bytes)) is
+    ends_here : Ends g o entry (run most bytes) (Rose (i.faults in_old) (i.faults in_new)) mid new x z ended
+    ends_here = runs.ends judge right entry bytes found_here reads_here
+
+    behind_here : EndsBehind g i o run most bytes in_old in_new x z ended
+    behind_here = runs.behind judge right entry bytes found_here reads_here
+
+    back : (P : Outcome → Type 0) → P (run most bytes) → P (run_within judge (texts words) most bytes entry)
+    back P is = subst P (sym (run_is judge entry most bytes)) is
 
   pub opened_store : RunsOverStore g i o words most old new in_old in_new x z ended
   opened_store = record {
-    headline = λ bytes entry reads holds.
-        back bytes entry reads holds (λ run. Meets o run (Rose (i.faults in_old) (i.faults in_new)) ended x z) (ends_here bytes entry reads holds).meets;
-    stopped = λ bytes entry reads holds.
-        back bytes entry reads holds (λ run. Recovers g entry run ended.done old new)
-        (recovers_behind g laws old mid new entry _ ended.done holds kept (ends_here bytes entry reads holds).recovers);
-    stored = λ bytes entry reads holds. back bytes entry reads holds (λ run. HoldsLast g entry run ended new) (ends_here bytes entry reads holds).holds;
-    behind = λ bytes entry reads holds is. elim (runs.behind entry bytes (found_here bytes entry reads holds) (λ none. reads (input_read none)) is) [
-      | inl way ↦ inl (back bytes entry reads holds (λ run. IsUnderWay o run.events ended.done x z) way)
-      | inr part ↦ inr (part.0, (part.1.0, part.1.1, part.1.2, part.1.3, part.1.4 ∙ sym (ap (λ (r : Outcome). length r.events) (run_is entry (length part.1.0) part.1.0))))
+    headline = λ judge right bytes entry reads holds.
+        back judge right bytes entry reads holds (λ run. Meets o run (Rose (i.faults in_old) (i.faults in_new)) ended x z) (ends_here judge right bytes entry reads holds).meets;
+    stopped = λ judge right bytes entry reads holds.
+        back judge right bytes entry reads holds (λ run. Recovers g entry run ended.done old new)
+        (recovers_behind g laws old mid new entry _ ended.done holds kept (ends_here judge right bytes entry reads holds).recovers);
+    stored = λ judge right bytes entry reads holds. back judge right bytes entry reads holds (λ run. HoldsLast g entry run ended new) (ends_here judge right bytes entry reads holds).holds;
+    behind = λ judge right bytes entry reads holds is. elim (behind_here judge right bytes entry reads holds is) [
+      | inl way ↦ inl (back judge right bytes entry reads holds (λ run. IsUnderWay o run.events ended.done x z) way)
+      | inr part ↦ inr (part.0, (part.1.0, part.1.1, part.1.2, part.1.3, part.1.4 ∙ sym (ap (λ (r : Outcome). length r.events) (run_is judge entry (length part.1.0) part.1.0))))
     ];
-    complete = λ bytes entry reads holds still quiet.
-        back bytes entry reads holds (λ run. IsComplete run ended.status)
-        ((ends_here bytes entry reads holds).complete still (record { disk = λ rose. quiet.disk (rose_later _ _ _ disk_later rose); sink = quiet.sink }));
+    complete = λ judge right bytes entry reads holds still quiet.
+        back judge right bytes entry reads holds (λ run. IsComplete run ended.status)
+        ((ends_here judge right bytes entry reads holds).complete still (record { disk = λ rose. quiet.disk (rose_later _ _ _ disk_later rose); sink = quiet.sink }));
   }
 
 -- ---- how a run ends that opens no store
 
-pub end_is : (ended : Ended) (status other : Status) (at : Progress) → ended ≡ record { status = status; done = at.done } → status ≡ other → at ≡ at_start → ended ≡ record { status = other; done = 0 }
+pub end_is : (ended : Ended) (status other : Status) (at : Progress) → ended ≡ record { status = status; done = at.done; meter = at.meter } → status ≡ other → at ≡ at_start
+    → ended ≡ record { status = other; done = 0; meter = 0 }
 end_is ended status other at is same begins =
-    let first : ended ≡ record { status = other; done = at.done } = is ∙ ap (λ (s : Status). record { status = s; done = at.done }) same in
-    first ∙ ap (λ (p : Progress). record { status = other; done = p.done }) begins
+    let first : ended ≡ record { status = other; done = at.done; meter = at.meter } = is ∙ ap (λ (s : Status). record { status = s; done = at.done; meter = at.meter }) same in
+    first ∙ ap (λ (p : Progress). record { status = other; done = p.done; meter = p.meter }) begins
 
 pub line_is : {O : Type 0} (o : sink.Ghosts O) (status other : Status) (at : Progress) (x z : O) → Writes o (some_line at.last (row status).text) x z → status ≡ other → at ≡ at_start
     → Writes o (some_line None (row other).text) x z

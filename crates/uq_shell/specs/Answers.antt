@@ -11,14 +11,15 @@ use Rattle.uq_kv.specs.Kv.{Tells, disk_of, is_begun_of, limits_of}
 use Rattle.uq_kv.specs.Stored.{Stored}
 use Rattle.uq_shell.specs.Commands.{Desk, Form, NoWord, OneWord, TwoWords, Request, at_cursor, beside, reading, refuses_words, writing}
 use Rattle.uq_shell.specs.Commands.{appends_key, begins_one, commits_one, deletes_key, fetches_key, rolls_back_one, stores_key}
-use Rattle.uq_shell.specs.Commands.{drops_entry, goes_to, resets_cursor, seeks_key, tells_data, tells_key, tells_valid}
+use Rattle.uq_shell.specs.Commands.{drops_entry, fails_by, goes_to, resets_cursor, seeks_key, tells_data, tells_key, tells_valid}
 use Rattle.uq_kv.specs.declared.error.KvFault.{KvFault}
 use Rattle.uq_shell.specs.Replies.{Said, refuses, said_in, taken_as}
 use Rattle.uq_shell.specs.declared.reply.Refusal.{Refusal}
+use Rattle.uq_shell.specs.declared.reply.Refusal.TheVariants.{BadCommand}
 use Rattle.uq_shell.specs.declared.answering.Answer.{Answer}
 use Rattle.uq_shell.specs.declared.command.Command.{Command}
 use Rattle.uq_shell.specs.declared.command.Command.TheVariants.{Store, Append, Fetch, Delete, Begin, Commit, Rollback}
-use Rattle.uq_shell.specs.declared.command.Command.TheVariants.{Seek, Go, Key, Data, Drop, Valid, Reset, Refused}
+use Rattle.uq_shell.specs.declared.command.Command.TheVariants.{Seek, Go, Key, Data, Drop, Valid, Reset, Refused, Failed}
 use Rattle.uq_shell.specs.declared.command.Verb.{Verb}
 use Rattle.uq_shell.specs.declared.command.Verb.TheVariants as verb
 use Rattle.uq_shell.specs.Moves.{place_by}
@@ -41,6 +42,7 @@ request_of Drop = writing (at_cursor drops_entry)
 request_of Valid = reading (at_cursor tells_valid)
 request_of Reset = reading resets_cursor
 request_of (Refused refusal) = refuses_words refusal
+request_of (Failed failure) = fails_by failure
 
 -- a command without its words
 abbrev pub form_of : Verb → Form
@@ -58,6 +60,7 @@ form_of verb.Data = NoWord (reading (at_cursor tells_data))
 form_of verb.Drop = NoWord (writing (at_cursor drops_entry))
 form_of verb.Valid = NoWord (reading (at_cursor tells_valid))
 form_of verb.Reset = NoWord (reading resets_cursor)
+form_of verb.Script = NoWord (refuses_words BadCommand)
 
 -- ---- what is said of an answer of the store
 

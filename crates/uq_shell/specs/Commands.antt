@@ -10,10 +10,12 @@ use Rattle.uq_kv.specs.Stored.{Stored, stored_key}
 use Rattle.uq_kv.specs.declared.error.KvFault.{KvFault}
 use Rattle.uq_kv.specs.declared.space.Space.TheVariants.{Keys}
 use Rattle.uq_shell.specs.Events.{Event, Out, Commit}
+use Rattle.uq_shell.specs.Failures.{fails}
 use Rattle.uq_shell.specs.Line.{line_after}
 use Rattle.uq_shell.specs.Replies.{Said, refuses, says, says_ok, taken_as}
 use Rattle.uq_shell.specs.Statuses.{row}
 use Rattle.uq_shell.specs.Walks.{first_key, last_key, next_key, prev_key}
+use Rattle.uq_shell.specs.declared.failure.Failure.{Failure}
 use Rattle.uq_shell.specs.declared.reply.Refusal.{Refusal}
 use Rattle.uq_shell.specs.declared.reply.Refusal.TheVariants.{BadCommand, NoEntry, UnknownCommand}
 use Rattle.uq_shell.specs.declared.status.Status.{Status}
@@ -83,6 +85,10 @@ rolls_back_one limits s = (says_ok, rolled_back s)
 
 abbrev pub refuses_words : Refusal → Request
 refuses_words refusal = reading (λ limits desk. (refuses refusal, desk))
+
+-- the end of a script that is not run or does not end as done
+abbrev pub fails_by : Failure → Request
+fails_by failure = reading (beside (λ _. fails failure))
 
 -- ---- the cursor
 
@@ -160,6 +166,8 @@ commands =
     ∷ row_of (codes "drop") (NoWord (writing (at_cursor drops_entry)))
     ∷ row_of (codes "valid") (NoWord (reading (at_cursor tells_valid)))
     ∷ row_of (codes "reset") (NoWord (reading resets_cursor))
+    -- alone on a line it begins a block, and alone among the program's words a script: then it is no command
+    ∷ row_of (codes "script") (NoWord (refuses_words BadCommand))
     ∷ []
 
 -- the words in this form; another number of words is refused

@@ -1,5 +1,5 @@
 -- What a run leaves, over a store that was opened.
-use Rattle.std.specs.Prelude.{◌≡◌, ◌⊎◌, ◌≤◌, ℕ, false, List, Option, [], ◌∷◌, length, take, slice_get, Some, None}
+use Rattle.std.specs.Prelude.{◌≡◌, ◌⊎◌, ◌≤◌, ℕ, false, List, Option, length, take, slice_get, Some, None}
 use Rattle.uq_facts.specs.Causes.{Rose}
 use Rattle.uq_outside.specs.declared.disk.Disk as disk
 use Rattle.uq_outside.specs.declared.sink.Sink as sink
@@ -7,7 +7,6 @@ use Rattle.uq_outside.specs.declared.source.Source as source
 use Rattle.uq_outside.specs.Files.{Files}
 use Rattle.uq_outside.specs.Streams.{Grows}
 use Rattle.uq_journal.specs.Calls.{IsStill}
-use Rattle.uq_model.specs.declared.limits.Limits.{Limits}
 use Rattle.uq_kv.specs.declared.kv.Kv.{Kv}
 use Rattle.uq_kv.specs.declared.opening.Ready.{Ready}
 use Rattle.uq_kv.specs.Kv.{disk_of, is_begun_of}
@@ -15,7 +14,7 @@ use Rattle.uq_kv.specs.Holds.{RecoversTo}
 use Rattle.uq_kv.specs.Opening.{Finds}
 use Rattle.uq_kv.specs.Stored.{Stored}
 use Rattle.uq_shell.specs.Answers.{LeavesAlike}
-use Rattle.uq_shell.specs.Carries.{IsCutOff, IsReadWhole, OfTaken}
+use Rattle.uq_shell.specs.Carries.{IsCutOff, IsReadWhole, IsTooLong, OfTaken, ReadsIn, reads_input}
 use Rattle.uq_shell.specs.Commands.{request}
 use Rattle.uq_shell.specs.Events.{Event, Out}
 use Rattle.uq_shell.specs.Followed.{some_line}
@@ -23,11 +22,13 @@ use Rattle.uq_shell.specs.Headline.{EndsInLine, HasCauses, HoldsLast, IsComplete
 use Rattle.uq_shell.specs.Reached.{Reached, Stands}
 use Rattle.uq_shell.specs.Run.{Outcome}
 use Rattle.uq_shell.specs.Statuses.{row, status_of}
-use Rattle.uq_shell.specs.Stream.{State, at_end, followed, start}
+use Rattle.uq_shell.specs.Stream.{Mode, OfLines, OfScript, OfWords, State, at_end, run_by, start}
+use Rattle.uq_shell.specs.Verdicts.{IsRight, Judge}
 use Rattle.uq_shell.specs.declared.ended.Ended.{Ended}
 use Rattle.uq_shell.specs.declared.progress.Progress.{Progress}
 use Rattle.uq_shell.specs.declared.status.Status.{Status}
 use Rattle.uq_shell.specs.declared.status.Status.TheVariants.{Done, Refused, Usage, Disk, Stream, NotDatabase, TooMuchInput}
+use Rattle.uq_shell.specs.declared.terms.Terms.{Terms}
 
 -- All of the bytes were written, or the sink failed behind a prefix of them.
 abbrev pub Writes : {O : Type 0} → sink.Ghosts O → List ℕ → O → O → Type 0
@@ -45,12 +46,14 @@ pub record IsUnderWay {O : Type 0} (o : sink.Ghosts O) (events : List Event) (n 
   pub there : slice_get events n ≡ Some (Out event)
   pub rose : SinkRose o old new
 
--- What is left of the input, which is read where `reads` holds.
-pub record LeavesInput {I : Type 0} (i : source.Ghosts I) (reads : Type 0) (most : ℕ) (in_old in_new : I) (status : Status) : Type 0 where
+-- What is left of the input, which is read by lines, as one script, or not at all.
+pub record LeavesInput {I : Type 0} (i : source.Ghosts I) (by_lines as_script : Type 0) (most : ℕ) (in_old in_new : I) (status : Status) : Type 0 where
   -- the words of a command take none of it
-  pub unread : (reads → ⊥) → in_new ≡ in_old
+  pub unread : (by_lines → ⊥) → (as_script → ⊥) → in_new ≡ in_old
   pub later : i.faults in_old ≤ i.faults in_new
-  pub whole : reads → (status ≡ Done) ⊎ (status ≡ Refused) → IsReadWhole i in_old in_new
+  pub whole : by_lines → (status ≡ Done) ⊎ (status ≡ Refused) → IsReadWhole i in_old in_new
+  -- of a script that is too long the rest is not read
+  pub script : as_script → (status ≡ Done) ⊎ (status ≡ Refused) → IsReadWhole i in_old in_new ⊎ IsTooLong i in_old in_new
   pub too_much : status ≡ TooMuchInput → IsCutOff i most in_old in_new
 
 module _ {D O : Type 0} (g : disk.Ghosts D) (o : sink.Ghosts O) where
@@ -89,15 +92,15 @@ module _ {D I O : Type 0} (g : disk.Ghosts D) (i : source.Ghosts I) (o : sink.Gh
       ⊎ (Rose (i.faults in_old) (i.faults in_new) × OfTaken i bytes in_new (λ taken. ended.done ≡ length (run (length taken) taken).events))
 
   -- A run over an open store on which nothing is begun. `holds` says when its session is told.
-  pub record RunsOver (holds : Stored → Type 0) (limits : Limits) (words : List (List ℕ)) (most : ℕ) (old new : D) (in_old in_new : I)
+  pub record RunsOver (holds : Stored → Type 0) (terms : Terms) (mode : Mode) (most : ℕ) (old new : D) (in_old in_new : I)
       (out_old out_new : O) (ended : Ended) : Type 0 where
-    pub ends : (entry : Stored) (bytes : List ℕ) → holds entry → (words ≡ [] → i.left in_old ≡ Some bytes)
-        → Ends g o entry (followed limits (start entry) words most bytes) (Rose (i.faults in_old) (i.faults in_new)) old new out_old out_new ended
-    pub behind : (entry : Stored) (bytes : List ℕ) → holds entry → (words ≡ [] → i.left in_old ≡ Some bytes)
-        → EndsBehind (followed limits (start entry) words) most bytes in_old in_new out_old out_new ended
+    pub ends : (judge : Judge) → IsRight judge → (entry : Stored) (bytes : List ℕ) → holds entry → ReadsIn i mode in_old bytes
+        → Ends g o entry (run_by judge terms (start entry) mode most bytes) (Rose (i.faults in_old) (i.faults in_new)) old new out_old out_new ended
+    pub behind : (judge : Judge) → IsRight judge → (entry : Stored) (bytes : List ℕ) → holds entry → ReadsIn i mode in_old bytes
+        → EndsBehind (run_by judge terms (start entry) mode) most bytes in_old in_new out_old out_new ended
     pub anywhere : EndsAnywhere g o ((entry : Stored) → holds entry → ⊥) (Rose (i.faults in_old) (i.faults in_new)) old new out_old out_new ended
-    pub input : LeavesInput i (words ≡ []) most in_old in_new ended.status
+    pub input : LeavesInput i (mode ≡ OfLines) (mode ≡ OfScript) most in_old in_new ended.status
     -- the words of a command that asks to write nothing leave the disk as it is
-    pub reads : (name : List ℕ) (others : List (List ℕ)) → words ≡ name ∷ others → (request words).writes ≡ false → IsStill g old new
+    pub reads : (command : List (List ℕ)) → mode ≡ OfWords command → (request command).writes ≡ false → IsStill g old new
     -- and no reply stands before `not a database`
-    pub first : (words ≡ [] → ⊥) → ended.status ≡ NotDatabase → Writes o (some_line None (row NotDatabase).text) out_old out_new
+    pub first : reads_input mode ≡ false → ended.status ≡ NotDatabase → Writes o (some_line None (row NotDatabase).text) out_old out_new

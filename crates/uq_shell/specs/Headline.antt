@@ -61,7 +61,8 @@ module _ {O : Type 0} (o : sink.Ghosts O) where
     pub bytes : List ℕ
     pub grows : Grows bytes (o.written old) (o.written new)
     pub followed : FollowedBytes run.events ended.done ended.status source_rose (SinkRose old new) bytes
-    pub exact : IsTrue (row ended.status).is_whole → (ended.status ≡ run.status) × (ended.done ≡ length run.events)
+    -- the meter has what the scripts of the run take together
+    pub exact : IsTrue (row ended.status).is_whole → (ended.status ≡ run.status) × (ended.done ≡ length run.events) × (ended.meter ≡ run.units)
     pub is_database : ended.status ≡ NotDatabase → ⊥
 
 module _ {D O : Type 0} (g : disk.Ghosts D) (o : sink.Ghosts O) where

@@ -73,7 +73,7 @@ module _ {D O : Type 0} (g : disk.Ghosts D) (o : sink.Ghosts O) where
     pub disk : stop ≡ At Disk → Rose (g.faults disk_first) (g.faults disk_now)
     pub kept : at.done ≡ 0 → LeavesAlike g disk_first disk_now
 
-  abbrev pub StandsBy : Result (Unit {0}) Stop → Progress → D → Kv D g → O → O → Type 0
+  abbrev pub StandsBy : {T : Type 0} → Result T Stop → Progress → D → Kv D g → O → O → Type 0
   StandsBy (Ok done) at disk_first kv out_first out = Stands at disk_first kv out_first out
   StandsBy (Err stop) at disk_first kv out_first out = Stops stop at disk_first (disk_of g kv).now out_first out
 
@@ -88,6 +88,7 @@ module _ {D O : Type 0} (g : disk.Ghosts D) (o : sink.Ghosts O) where
     pub done : length state.events ≡ at.done
     pub last : written_last state ≡ at.last
     pub refused : state.is_refused ≡ at.is_refused
+    pub units : state.units ≡ at.meter
     pub tells : Tells g kv state.desk.session
     pub cursor : place ≡ state.desk.cursor
     pub saved : last_commit entry state.events ≡ state.desk.session.saved
@@ -107,6 +108,6 @@ module _ {D O : Type 0} (g : disk.Ghosts D) (o : sink.Ghosts O) where
     -- the session is told still, unless the store failed
     pub tells : IsTrue (row (status_at stop)).is_answered → (s : Session Stored) × Tells g kv s × (s.saved ≡ last_commit entry (take at.done events))
 
-  abbrev pub ReachedBy : Result (Unit {0}) Stop → Stored → State → Progress → Option (List ℕ) → D → Kv D g → O → O → Type 0
+  abbrev pub ReachedBy : {T : Type 0} → Result T Stop → Stored → State → Progress → Option (List ℕ) → D → Kv D g → O → O → Type 0
   ReachedBy (Ok done) entry state at place disk_first kv out_first out = Reached entry state at place disk_first kv out_first out
   ReachedBy (Err stop) entry state at place disk_first kv out_first out = CutShort entry state.events stop at disk_first kv out_first out

@@ -11,7 +11,7 @@ use Rattle.uq_words.specs.declared.error.OptionsFault.TheVariants as options
 use Rattle.uq_words.specs.declared.error.InputFault.{InputFault}
 use Rattle.uq_words.specs.declared.error.InputFault.TheVariants as input
 use Rattle.uq_shell.specs.declared.reply.Refusal.{Refusal}
-use Rattle.uq_shell.specs.declared.reply.Refusal.TheVariants.{LineTooLong, BadCommand, UnknownCommand}
+use Rattle.uq_shell.specs.declared.reply.Refusal.TheVariants.{LineTooLong, BadCommand, UnknownCommand, UnfinishedScript, ScriptTooLong}
 use Rattle.uq_shell.specs.declared.reply.Refusal.TheVariants.{EmptyKey, KeyTooLong, ValueTooLong, Full, NotFound, NoEntry}
 use Rattle.uq_shell.specs.declared.reply.Reply.{Reply}
 use Rattle.uq_shell.specs.declared.reply.Reply.TheVariants as reply
@@ -31,6 +31,8 @@ refusal_text ValueTooLong = codes "value too long"
 refusal_text Full = codes "full"
 refusal_text NotFound = codes "not found"
 refusal_text NoEntry = codes "no entry"
+refusal_text UnfinishedScript = codes "unfinished script"
+refusal_text ScriptTooLong = codes "script too long"
 
 -- how a run ends by a cause
 abbrev pub status_by : Cause → Status
@@ -89,6 +91,7 @@ text_of reply.Ok = codes "ok"
 text_of (reply.Data text) = text.items
 text_of reply.Yes = codes "yes"
 text_of reply.No = codes "no"
+text_of (reply.Failed text) = text.items
 text_of (reply.Refused refusal) = refusal_text refusal
 
 abbrev pub is_refused : Reply → Bool
@@ -96,6 +99,7 @@ is_refused reply.Ok = false
 is_refused (reply.Data text) = false
 is_refused reply.Yes = false
 is_refused reply.No = false
+is_refused (reply.Failed text) = true
 is_refused (reply.Refused refusal) = true
 
 abbrev pub said_in : Answer → Said

@@ -1,5 +1,5 @@
 -- The theorem of a run over its words and its input, one sentence a field.
-use Rattle.std.specs.Prelude.{◌≡◌, ◌⊎◌, ℕ, false, List, [], ◌∷◌, Some, None, String, IsTrue}
+use Rattle.std.specs.Prelude.{◌≡◌, ◌⊎◌, ℕ, false, List, Some, None, String, IsTrue}
 use Rattle.std.specs.Global.{Global}
 use Rattle.std.specs.Option.{ForSome}
 use Rattle.uq_facts.specs.Causes.{Rose}
@@ -11,25 +11,35 @@ use Rattle.uq_kv.specs.Holds.{HasShape, Holds}
 use Rattle.uq_kv.specs.Stored.{Stored}
 use Rattle.uq_words.specs.Options.{Asked, order_of_words}
 use Rattle.uq_words.specs.Texts.{texts}
+use Rattle.uq_shell.specs.Carries.{reads_input}
 use Rattle.uq_shell.specs.Commands.{request}
 use Rattle.uq_shell.specs.Ends.{EndsBehind, LeavesInput, Writes}
 use Rattle.uq_shell.specs.Followed.{some_line}
 use Rattle.uq_shell.specs.Headline.{EndsInLine, HoldsLast, IsComplete, IsQuiet, KeepsCounting, KeepsFilesAtGate, Meets, Recovers, RunsForCauses}
 use Rattle.uq_shell.specs.Run.{Outcome}
 use Rattle.uq_shell.specs.Statuses.{row}
-use Rattle.uq_shell.specs.Stream.{run_within}
+use Rattle.uq_shell.specs.Stream.{Mode, OfLines, OfScript, OfWords, mode_of, run_within}
+use Rattle.uq_shell.specs.Verdicts.{IsRight, Judge}
 use Rattle.uq_shell.specs.declared.ended.Ended.{Ended}
 use Rattle.uq_shell.specs.declared.status.Status.TheVariants.{Usage, Memory, NotDatabase}
 
--- the words name a database and no command
+-- P of what words make of the input, where they are in form
+abbrev pub OfMode : List (List ℕ) → (Mode → Type 0) → Type 0
+OfMode words P = (asked : Asked) × (order_of_words words ≡ Some asked) × P (mode_of asked.words)
+
+-- the words ask for the commands of the input, or for it as one script
+abbrev pub ReadsLines : List (List ℕ) → Type 0
+ReadsLines words = OfMode words (λ mode. mode ≡ OfLines)
+
+abbrev pub ReadsScript : List (List ℕ) → Type 0
+ReadsScript words = OfMode words (λ mode. mode ≡ OfScript)
+
 abbrev pub ReadsInput : List (List ℕ) → Type 0
-ReadsInput words = (asked : Asked) × (order_of_words words ≡ Some asked) × (asked.words ≡ [])
+ReadsInput words = OfMode words (λ mode. IsTrue (reads_input mode))
 
 -- the words are a command that asks to write nothing
 abbrev pub ReadsOnly : List (List ℕ) → Type 0
-ReadsOnly words =
-    (asked : Asked) × (name : List ℕ) × (others : List (List ℕ)) × (order_of_words words ≡ Some asked) × (asked.words ≡ name ∷ others)
-    × ((request (name ∷ others)).writes ≡ false)
+ReadsOnly words = OfMode words (λ mode. (command : List (List ℕ)) × (mode ≡ OfWords command) × ((request command).writes ≡ false))
 
 module _ {D I O : Type 0} (g : disk.Ghosts D) (i : source.Ghosts I) (o : sink.Ghosts O) where
   -- Over every disk, source and sink.
@@ -40,7 +50,7 @@ module _ {D I O : Type 0} (g : disk.Ghosts D) (i : source.Ghosts I) (o : sink.Gh
     pub usage : ended.status ≡ Usage → order_of_words (texts words) ≡ None
     pub form : order_of_words (texts words) ≡ None → (ended.status ≡ Usage) ⊎ (ended.status ≡ Memory)
     pub untouched : order_of_words (texts words) ≡ None → new ≡ old
-    pub input : LeavesInput i (ReadsInput (texts words)) most in_old in_new ended.status
+    pub input : LeavesInput i (ReadsLines (texts words)) (ReadsScript (texts words)) most in_old in_new ended.status
     pub counts : KeepsCounting g o old new out_old out_new
     pub line : EndsInLine o (Rose (i.faults in_old) (i.faults in_new)) out_old out_new ended.status
     -- the words of a command get no reply before `not a database`
@@ -54,11 +64,11 @@ module _ {D I O : Type 0} (g : disk.Ghosts D) (i : source.Ghosts I) (o : sink.Gh
     pub bytes : ReadsOnly (texts words) → KeepsFilesAtGate g old new
 
   -- P of what the disk holds, of the input, and of what a run over these words means for the bytes that it reads at most and for
-  -- an input. The source has to tell its bytes only where it is read.
+  -- an input. The source has to tell its bytes only where it is read. What scripts mean is told of each right judge of their texts.
   abbrev pub OverStoreAndInput : List (String Global) → D → I → (Stored → List ℕ → (ℕ → List ℕ → Outcome) → Type 0) → Type 0
   OverStoreAndInput words it input P =
-      (bytes : List ℕ) (entry : Stored) → (ReadsInput (texts words) → i.left input ≡ Some bytes) → Holds g it entry
-      → P entry bytes (λ most input. run_within (texts words) most input entry)
+      (judge : Judge) → IsRight judge → (bytes : List ℕ) (entry : Stored) → (ReadsInput (texts words) → i.left input ≡ Some bytes) → Holds g it entry
+      → P entry bytes (λ most input. run_within judge (texts words) most input entry)
 
   -- Over a disk that holds a store, and a source that tells its bytes where it is read.
   pub record RunsOverStore (words : List (String Global)) (most : ℕ) (old new : D) (in_old in_new : I) (out_old out_new : O) (ended : Ended) : Type 0 where

@@ -5,11 +5,13 @@ ghost use Rattle.uq_kv.specs.Kv.{closed_of, is_begun_of};
 ghost use Rattle.uq_json.specs.Quote.{quoted};
 ghost use Rattle.uq_shell.specs.Answers.{DoesAsAsked, Leaves, RefusesBy, SaysBy, request_of};
 ghost use Rattle.uq_shell.specs.Commands.{says_truth};
+ghost use Rattle.uq_shell.specs.Failures.{fails_as};
 ghost use Rattle.uq_shell.specs.Replies.{says, says_ok};
 
 use crate::Status;
 use crate::command::Command;
 use crate::cursor::go;
+use crate::failure::Failure;
 use crate::reply::{Reply, refusal_of};
 use std::alloc::Global;
 use uq_json::quote;
@@ -69,6 +71,13 @@ pub fn answer_command<D: Disk>(
             Ok(replying(Reply::Ok))
         }
         Command::Refused(refusal) => Ok(replying(Reply::Refused(refusal))),
+        Command::Failed(failure) => {
+            if failure.aborts() {
+                failed(alloc, failure, kv.rollback())
+            } else {
+                failed(alloc, failure, Ok(()))
+            }
+        }
     }
 }
 
@@ -138,6 +147,19 @@ fn told(outcome: Result<bool, KvFault>) -> Result<Answer, Status>
     match outcome {
         Ok(true) => Ok(replying(Reply::Yes)),
         Ok(false) => Ok(replying(Reply::No)),
+        Err(fault) => refused(fault),
+    }
+}
+
+/// The answer to a script that failed, behind a rollback where it was run.
+fn failed(alloc: Global, failure: Failure, outcome: Result<(), KvFault>) -> Result<Answer, Status>
+    ensures { SaysBy (λ _. fails_as failure) outcome result }
+{
+    match outcome {
+        Ok(()) => match failure.text(alloc) {
+            Ok(text) => Ok(replying(Reply::Failed(text))),
+            Err(_) => Err(Status::Memory),
+        },
         Err(fault) => refused(fault),
     }
 }

@@ -5,6 +5,7 @@ ghost use Rattle.uq_shell.specs.Answers.{form_of, request_of};
 ghost use Rattle.uq_shell.specs.Commands.{NoWord, commands, filled, form_named, request};
 
 use crate::cursor::Move;
+use crate::failure::Failure;
 use crate::reply::Refusal;
 
 /// A command and its words.
@@ -26,6 +27,8 @@ pub enum Command<'a> {
     Reset,
     /// Words that are no command.
     Refused(Refusal),
+    /// The end of a script that was not run, or did not end as done.
+    Failed(Failure),
 }
 
 /// A command without its words.
@@ -45,6 +48,7 @@ pub enum Verb {
     Drop,
     Valid,
     Reset,
+    Script,
 }
 
 /// What the words of a command ask for: its name, and the words that stand behind it.
@@ -115,6 +119,9 @@ fn verb_named(name: &[u8]) -> Option<Verb>
     if is_same(name, b"reset") {
         return Some(Verb::Reset);
     }
+    if is_same(name, b"script") {
+        return Some(Verb::Script);
+    }
     None
 }
 
@@ -170,6 +177,8 @@ fn command_of<'a>(verb: Verb, words: &'a [Vec<u8>]) -> Command<'a>
         Verb::Drop => alone(Command::Drop, words),
         Verb::Valid => alone(Command::Valid, words),
         Verb::Reset => alone(Command::Reset, words),
+        // Where it stands alone it is taken before, as a script.
+        Verb::Script => Command::Refused(Refusal::BadCommand),
     }
 }
 

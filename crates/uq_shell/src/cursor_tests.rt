@@ -1,6 +1,6 @@
 //! Runs of commands beside the one cursor. The walk over `a`, `b` and `c` is `b`, `a`, `c`.
-use crate::tests::{FAILED, MOST, ended, follow, obey, stored};
-use crate::{Ended, Status};
+use crate::Status;
+use crate::tests::{End, FAILED, MOST, ended, follow, obey, stored};
 use std::alloc::Global;
 use std::process::Abort;
 use std::test::Fail;
@@ -12,7 +12,7 @@ fn check(
     alloc: Global,
     input: &[u8],
     wanted: &[u8],
-    wanted_end: Ended,
+    wanted_end: End,
 ) -> Result<(), Fail> {
     for more in [0usize, 6, 999] {
         let piece = more.saturating_add(1);
@@ -28,7 +28,7 @@ fn check(
 
 #[test]
 fn a_walk_goes_on_behind_a_key_that_is_dropped(rt: HostRuntime) -> Result<(), Fail> {
-    let runs: [(&[u8], &[u8], Ended); 5] = [
+    let runs: [(&[u8], &[u8], End); 5] = [
         (
             b"store a 1\nstore b 2\nstore c 3\nfirst\ndrop\nnext\ndata\nnext\nnext\n",
             b"ok\nok\nok\n\"b\"\nok\n\"a\"\n\"1\"\n\"c\"\nno entry\n",
@@ -63,7 +63,7 @@ fn a_walk_goes_on_behind_a_key_that_is_dropped(rt: HostRuntime) -> Result<(), Fa
 
 #[test]
 fn a_cursor_that_is_unset_is_at_no_entry(rt: HostRuntime) -> Result<(), Fail> {
-    let runs: [(&[u8], &[u8], Ended); 6] = [
+    let runs: [(&[u8], &[u8], End); 6] = [
         (
             b"next\nprev\nkey\ndata\ndrop\nvalid\nreset\nfirst\nlast\n",
             b"no entry\nno entry\nno entry\nno entry\nno entry\nno\nok\nno entry\nno entry\n",
@@ -103,7 +103,7 @@ fn a_cursor_that_is_unset_is_at_no_entry(rt: HostRuntime) -> Result<(), Fail> {
 
 #[test]
 fn a_cursor_is_at_a_key_whatever_happens_to_the_data(rt: HostRuntime) -> Result<(), Fail> {
-    let runs: [(&[u8], &[u8], Ended); 5] = [
+    let runs: [(&[u8], &[u8], End); 5] = [
         (
             b"store a 1\nseek a\nappend a 2\ndata\nkey\nvalid\nreset\n",
             b"ok\n\"a\"\nok\n\"12\"\n\"a\"\nyes\nok\n",
@@ -139,7 +139,7 @@ fn a_cursor_is_at_a_key_whatever_happens_to_the_data(rt: HostRuntime) -> Result<
 #[test]
 fn each_run_has_a_cursor_of_its_own(rt: HostRuntime) -> Result<(), Fail> {
     let mut disk = stored(rt.alloc())?;
-    let runs: [(&[&str], &[u8], Ended); 6] = [
+    let runs: [(&[&str], &[u8], End); 6] = [
         (&["t.db", "first"], b"\"a\"\n", ended(Status::Done, 1)),
         (&["t.db", "valid"], b"no\n", ended(Status::Done, 1)),
         (&["t.db", "next"], b"no entry\n", ended(Status::Refused, 1)),

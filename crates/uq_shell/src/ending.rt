@@ -15,31 +15,33 @@ use uq_outside::{Disk, Sink};
 /// At the end of the input: commits what is begun.
 pub fn settle<D: Disk, O: Sink>(
     alloc: Global,
-    progress: &Progress,
+    progress: Progress,
     kv: &mut Kv<'_, D>,
     out: &mut O,
 ) -> Ended
     requires open { closed_of D.Disk kv.old ≡ None }
-    requires few { progress.now.done < 2 ^ 66 }
-    ensures { Settles D.Disk O.Sink progress.now kv.old kv.new out.old out.new result }
+    requires few { progress.done < 2 ^ 120 }
+    ensures { Settles D.Disk O.Sink progress kv.old kv.new out.old out.new result }
 {
     match kv.commit() {
         Ok(true) => Ended {
             status: progress.status(),
             done: progress.done + 1,
+            meter: progress.meter,
         },
         Ok(false) => Ended {
             status: progress.status(),
             done: progress.done,
+            meter: progress.meter,
         },
         Err(_) => end(alloc, Status::Disk, progress, out),
     }
 }
 
 /// Writes the line of the status behind what was put out.
-pub fn end<O: Sink>(alloc: Global, status: Status, progress: &Progress, out: &mut O) -> Ended
-    ensures ended { result ≡ record { status = status; done = progress.now.done } }
-    ensures line { Writes O.Sink (some_line progress.now.last (row status).text) out.old out.new }
+pub fn end<O: Sink>(alloc: Global, status: Status, progress: Progress, out: &mut O) -> Ended
+    ensures ended { result ≡ record { status = status; done = progress.done; meter = progress.meter } }
+    ensures line { Writes O.Sink (some_line progress.last (row status).text) out.old out.new }
     ensures later { O.faults out.old ≤ O.faults out.new }
 {
     let text = status.text();
@@ -50,5 +52,6 @@ pub fn end<O: Sink>(alloc: Global, status: Status, progress: &Progress, out: &mu
     Ended {
         status,
         done: progress.done,
+        meter: progress.meter,
     }
 }

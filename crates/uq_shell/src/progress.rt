@@ -5,10 +5,11 @@ ghost use Rattle.uq_shell.specs.Replies.{stop_by_input};
 ghost use Rattle.uq_shell.specs.Statuses.{status_of};
 
 use crate::Status;
+use jx9_vm::Meter;
 use uq_words::InputFault;
 
 /// Where a run stands.
-#[derive(Clone, Copy, Debug, Drop)]
+#[derive(Drop)]
 pub struct Progress {
     /// How many events are done.
     pub done: u128,
@@ -16,6 +17,8 @@ pub struct Progress {
     pub last: Option<u8>,
     /// Whether a reply was a refusal.
     pub is_refused: bool,
+    /// The units that scripts took.
+    pub meter: Meter,
 }
 
 /// What ends a run before its input ends.
@@ -28,6 +31,9 @@ pub enum Stop {
 }
 
 impl Progress {
+    ghost use Rattle.std.specs.Prelude.{◌<◌, ◌^◌};
+    ghost use Rattle.uq_shell.specs.Performs.{Passes};
+
     /// Nothing was done yet.
     pub fn new() -> Progress
         ensures { result ≡ at_start }
@@ -36,6 +42,18 @@ impl Progress {
             done: 0,
             last: None,
             is_refused: false,
+            meter: Meter::new(),
+        }
+    }
+
+    /// So many events more are done, of which this is the last byte that was put out, where one was.
+    pub fn pass(&mut self, events: u64, last: Option<u8>)
+        requires { self.old.done < 2 ^ 120 }
+        ensures { Passes events last self.old self.new }
+    {
+        self.done += u128::from(events);
+        if last.is_some() {
+            self.last = last;
         }
     }
 

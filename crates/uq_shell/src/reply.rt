@@ -15,6 +15,8 @@ pub enum Reply {
     /// What was asked is so.
     Yes,
     No,
+    /// The text of a script's failure.
+    Failed(Vec<u8>),
     Refused(Refusal),
 }
 
@@ -36,6 +38,10 @@ pub enum Refusal {
     NotFound,
     /// There is no such entry.
     NoEntry,
+    /// The input ends within the block of a script.
+    UnfinishedScript,
+    /// The script is longer than a script may be.
+    ScriptTooLong,
 }
 
 impl Reply {
@@ -48,6 +54,7 @@ impl Reply {
             Reply::Data(text) => text.as_slice(),
             Reply::Yes => b"yes",
             Reply::No => b"no",
+            Reply::Failed(text) => text.as_slice(),
             Reply::Refused(refusal) => refusal.text(),
         }
     }
@@ -56,7 +63,7 @@ impl Reply {
     pub fn is_refusal(&self) -> bool
         ensures { result ≡ is_refused self.now }
     {
-        matches!(self, Reply::Refused(_))
+        matches!(self, Reply::Refused(_) | Reply::Failed(_))
     }
 }
 
@@ -74,6 +81,8 @@ impl Refusal {
             Refusal::Full => b"full",
             Refusal::NotFound => b"not found",
             Refusal::NoEntry => b"no entry",
+            Refusal::UnfinishedScript => b"unfinished script",
+            Refusal::ScriptTooLong => b"script too long",
         }
     }
 }

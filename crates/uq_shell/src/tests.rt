@@ -1,7 +1,7 @@
 //! Runs over a disk and a sink in memory: replies, calls that fail, and stops at every moment.
 ghost use Rattle.std.specs.Prelude.{◌≤◌};
 
-use crate::{Ended, Status, run, run_within};
+use crate::{Status, run, run_within};
 use std::alloc::{AllocError, Global};
 use std::fs;
 use std::process::Abort;
@@ -20,18 +20,29 @@ const NOT_FOUND: &[u8] = b"not found\n";
 
 pub const FAILED: &[u8] = b"disk failed\n";
 
+/// How a run ended, without the units of its scripts.
+#[derive(Clone, Copy, Debug, PartialEq, Eq)]
+pub struct End {
+    pub status: Status,
+    pub done: u128,
+}
+
 /// Runs words over a disk, into a sink, with no input.
 pub fn obey<D: Disk>(
     alloc: Global,
     words: &[&str],
     disk: &mut D,
     out: &mut MemSink,
-) -> Result<Ended, AllocError> {
+) -> Result<End, AllocError> {
     let mut list = Vec::new(alloc);
     for word in words {
         list.push(word.to_string(alloc)?)?;
     }
-    Ok(run(alloc, list.as_slice(), disk, &mut SureSource::new(b""), out))
+    let ended = run(alloc, list.as_slice(), disk, &mut SureSource::new(b""), out);
+    Ok(End {
+        status: ended.status,
+        done: ended.done,
+    })
 }
 
 const STORE: &[&str] = &["t.db", "store", "a", "1"];
@@ -45,14 +56,14 @@ pub fn stored(alloc: Global) -> Result<MemDisk, Fail> {
     Ok(disk)
 }
 
-pub fn ended(status: Status, done: u128) -> Ended {
-    Ended { status, done }
+pub fn ended(status: Status, done: u128) -> End {
+    End { status, done }
 }
 
 #[test]
 fn a_stored_key_is_fetched_as_a_json_string(rt: HostRuntime) -> Result<(), Fail> {
     let mut disk = MemDisk::new(rt.alloc(), b"", b"", &[])?;
-    let runs: [(&[&str], &[u8], Ended); 19] = [
+    let runs: [(&[&str], &[u8], End); 19] = [
         (
             &["t.db", "fetch", "b"],
             NOT_FOUND,
@@ -112,7 +123,7 @@ fn a_stored_key_is_fetched_as_a_json_string(rt: HostRuntime) -> Result<(), Fail>
             ended(Status::Refused, 1),
         ),
         (
-            &["--budget", "1", "t.db"],
+            &["--budget", "0", "t.db"],
             b"usage: unqlite [--budget N] [--max-entries N] [--max-bytes N] DB [COMMAND [WORD ...]]\n",
             ended(Status::Usage, 0),
         ),
@@ -237,7 +248,7 @@ fn count_stops(
     alloc: Global,
     case: &Case<'_>,
     disk: &MemDisk,
-    end: Ended,
+    end: End,
 ) -> Result<u64, Fail> {
     let mut images: u64 = 0;
     for choice in 0..5u8 {
@@ -495,7 +506,7 @@ fn check_failing_put(
     case: &Case<'_>,
     put: (u64, usize),
     fails: &[u64],
-    want: Ended,
+    want: End,
     bytes: &[u8],
 ) -> Result<(), Fail> {
     let mut disk = MemDisk::new(alloc, case.main, case.journal, fails)?;
@@ -664,21 +675,25 @@ pub fn follow<D: Disk, I: Source>(
     input: &mut I,
     out: &mut MemSink,
     most: u64,
-) -> Result<Ended, AllocError>
+) -> Result<End, AllocError>
     requires { 1 ≤ most }
 {
     let mut list = Vec::new(alloc);
     for word in words {
         list.push(word.to_string(alloc)?)?;
     }
-    Ok(run_within(alloc, list.as_slice(), disk, input, out, most))
+    let ended = run_within(alloc, list.as_slice(), disk, input, out, most);
+    Ok(End {
+        status: ended.status,
+        done: ended.done,
+    })
 }
 
 pub const MOST: u64 = 1 << 40;
 
 #[test]
 fn the_lines_of_the_input_are_obeyed_in_order(rt: HostRuntime) -> Result<(), Fail> {
-    let runs: [(&[&str], &[u8], &[u8], Ended); 24] = [
+    let runs: [(&[&str], &[u8], &[u8], End); 24] = [
         (&["t.db"], b"", b"", ended(Status::Done, 0)),
         (
             &["t.db"],
@@ -778,7 +793,7 @@ fn the_lines_of_the_input_are_obeyed_in_order(rt: HostRuntime) -> Result<(), Fai
         ),
         (
             &["t.db"],
-            b"script",
+            b"scripts",
             b"unknown command\n",
             ended(Status::Refused, 1),
         ),
@@ -939,7 +954,7 @@ fn blanks_returns_and_quoted_words_are_read_by_the_rules(rt: HostRuntime) -> Res
 
 #[test]
 fn options_are_refused_in_other_places_and_forms(rt: HostRuntime) -> Result<(), Fail> {
-    let refused: [&[&str]; 16] = [
+    let refused: [&[&str]; 17] = [
         &[],
         &[""],
         &["--max-entries"],
@@ -950,7 +965,8 @@ fn options_are_refused_in_other_places_and_forms(rt: HostRuntime) -> Result<(), 
         &["--max-entries", "1", "--max-entries", "1", "t.db"],
         &["--max-bytes", "1073741825", "t.db"],
         &["--max-bytes=5", "t.db"],
-        &["--budget", "1", "t.db"],
+        &["--budget", "0", "t.db"],
+        &["--budget", "1000000000001", "t.db"],
         &["t.db", "--max-bytes", "5"],
         &["t.db", "fetch", "-a"],
         &["-", "fetch", "a"],
@@ -1082,7 +1098,7 @@ fn count_stops_of_twelve(
     rt: &impl Abort,
     alloc: Global,
     disk: &MemDisk,
-    end: Ended,
+    end: End,
 ) -> Result<u64, Fail> {
     let mut images: u64 = 0;
     for choice in 0..5u8 {

@@ -10,12 +10,13 @@ use Rattle.uq_kv.specs.Stored.{stored_key}
 use Rattle.uq_kv.specs.declared.space.Space.TheVariants.{Keys}
 use Rattle.uq_shell.specs.Answers.{DoesAsAsked, Leaves, request_of}
 use Rattle.uq_shell.specs.Commands.{appends_key, deletes_key, drops_entry, fetches_key, says_truth, stores_key, tells_data, tells_key, tells_valid}
+use Rattle.uq_shell.specs.Failures.{fails_as}
 use Rattle.uq_shell.specs.Moves.{place_by}
 use Rattle.uq_shell.specs.Replies.{said_in, says, says_ok}
 use Rattle.uq_shell.specs.declared.command.Command.{Command}
 use Rattle.uq_shell.specs.declared.command.Command.TheVariants as command
 use Rattle.uq_shell.proofs.Alike.{alike_same, alike_still, still_same}
-use Rattle.uq_shell.proofs.Stepping.{beside_does, leaves, leaves_here, none_refused, step_does, step_goes, step_seeks, stop_commit, stop_saved}
+use Rattle.uq_shell.proofs.Stepping.{beside_does, leaves, leaves_here, leaves_unrun, none_refused, step_does, step_goes, step_seeks, stop_commit, stop_saved}
 use Rattle.uq_shell.proofs.answering.answer_command.Goals as goal
 
 pub returns-in-Store-clause-does : goal.returns-in-Store-clause-does
@@ -203,3 +204,21 @@ returns-in-Refused-clause-leaves g c =
     let laws : Laws g.D.Disk = record { only_now = g.met.D.Disk.only_now; counts_now = g.met.D.Disk.counts_now } in
     subst (λ (it : Command). Leaves g.D.Disk (request_of it) c.args.kv.now c.args.kv.now (place_of c.args.cursor.now) (Ok c.replying-in-Refused.result)) (sym c.in-Refused.is)
     (leaves_here g.D.Disk laws c.args.kv.now (request_of (command.Refused c.in-Refused.refusal)) (place_of c.args.cursor.now) c.replying-in-Refused.result)
+
+pub returns-then-aborts-clause-leaves : goal.returns-then-aborts-clause-leaves
+returns-then-aborts-clause-leaves g c =
+    let laws : Laws g.D.Disk = record { only_now = g.met.D.Disk.only_now; counts_now = g.met.D.Disk.counts_now } in
+    let asked = request_of (command.Failed c.in-Failed.failure) in
+    subst (λ (it : Command). Leaves g.D.Disk (request_of it) c.args.kv.now c.rollback-then-aborts.new.self (place_of c.args.cursor.now) c.failed.result) (sym c.in-Failed.is)
+    (leaves g.D.Disk c.args.kv.now c.rollback-then-aborts.new.self asked (place_of c.args.cursor.now) (λ _. fails_as c.in-Failed.failure) c.rollback-then-aborts.result c.failed.result c.failed.ensures
+    c.requires c.rollback-then-aborts.ensures.keeps c.rollback-then-aborts.ensures.cause
+    (stop_saved g.D.Disk c.args.kv.now c.rollback-then-aborts.new.self asked (place_of c.args.cursor.now) c.rollback-then-aborts.ensures.stop)
+    (λ _. still_same g.D.Disk laws _ _ c.rollback-then-aborts.ensures.disk)
+    (λ _ none. none_refused g.D.Disk c.args.kv.now c.rollback-then-aborts.new.self c.rollback-then-aborts.result c.rollback-then-aborts.ensures.faults c.requires c.rollback-then-aborts.ensures.cause c.rollback-then-aborts.ensures.begun)
+    (λ _. alike_same g.D.Disk laws _ _ c.rollback-then-aborts.ensures.disk))
+
+pub returns-else-aborts-clause-leaves : goal.returns-else-aborts-clause-leaves
+returns-else-aborts-clause-leaves g c =
+    let laws : Laws g.D.Disk = record { only_now = g.met.D.Disk.only_now; counts_now = g.met.D.Disk.counts_now } in
+    subst (λ (it : Command). Leaves g.D.Disk (request_of it) c.args.kv.now c.args.kv.now (place_of c.args.cursor.now) c.failed-else-aborts.result) (sym c.in-Failed.is)
+    (leaves_unrun g.D.Disk laws c.args.kv.now (request_of (command.Failed c.in-Failed.failure)) (place_of c.args.cursor.now) (fails_as c.in-Failed.failure) c.failed-else-aborts.result c.failed-else-aborts.ensures)
