@@ -6,10 +6,9 @@ use Rattle.uq_value.specs.Places.{place_of}
 use Rattle.uq_value.specs.Plain.{value_of}
 use Rattle.uq_value.specs.Put.{with_member}
 use Rattle.uq_value.specs.Reading.{find_member}
-use Rattle.uq_value.specs.Internal.Index.{IsFound}
 use Rattle.uq_value.specs.Internal.Writing.{name_at}
 use Rattle.uq_value.specs.Internal.Kept.{plain_member}
-use Rattle.uq_value.specs.Internal.Names.{name_of, names}
+use Rattle.uq_value.specs.Internal.Names.{name_of, names, IsFound}
 use Rattle.uq_value.specs.declared.object.Member.{Member}
 use Rattle.uq_value.proofs.Levels.{value_of-plain}
 use Rattle.uq_value.proofs.Named.{Found, found_at, Absent, absent, names-added}

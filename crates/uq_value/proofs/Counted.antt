@@ -8,7 +8,7 @@ use Rattle.uq_value.specs.Plain.{plain, depth}
 use Rattle.uq_value.specs.Internal.Kept.{plain_member}
 use Rattle.uq_value.specs.Internal.Names.{member_depth}
 use Rattle.uq_value.specs.Internal.Tally.{deepest_of}
-use Rattle.uq_value.specs.Internal.Beside.{CountsAre, Mends}
+use Rattle.uq_value.specs.Internal.Beside.{depth_of, CountsAre, Mends}
 use Rattle.uq_value.specs.declared.kept.Kept.{Kept}
 use Rattle.uq_value.specs.declared.value.Value.{Value}
 use Rattle.uq_value.specs.declared.object.Member.{Member}
@@ -40,7 +40,7 @@ module _ {A : Type 0} (g : A → ℕ) where
   part-within (x ∷ xs) (suc i) d h = omega (arith, part-within xs i d (omega (arith, h)))
 
   -- the part at a place is another one now
-  pub mended : (old new : Kept) (xs : List A) (at : ℕ) (x y : A) → at < length xs → x ≡ get_or xs at x → Mends old new (g x) (g y) (map g (set xs at y)) → CountsAre old (map g xs) → old.depth ≡ 1 + deepest_of (map g xs)
-      → (new.depth ≡ 1 + deepest_of (map g (set xs at y))) × CountsAre new (map g (set xs at y))
+  pub mended : (old new : Kept) (xs : List A) (at : ℕ) (x y : A) → at < length xs → x ≡ get_or xs at x → Mends old new (g x) (g y) (map g (set xs at y)) → CountsAre old (map g xs) → depth_of old ≡ 1 + deepest_of (map g xs)
+      → (depth_of new ≡ 1 + deepest_of (map g (set xs at y))) × CountsAre new (map g (set xs at y))
   mended old new xs at x y h e m c d =
       m (map g xs) at (omega (arith, h, length-map xs g)) (get_or-map g xs at x 0 h ∙ ap g (sym e)) (sym (map-set g xs at y)) (d, c)

@@ -1,15 +1,14 @@
 -- Blocks to which an entry is added, or of which one is cut in two.
-use Rattle.std.proofs.Common.{◌≡◌, ◌<◌, ◌≤◌, ◌+◌, ℕ, zero, suc, refl, ap, sym, ◌∙◌, arith, subst, Bool, true, false, ◌||◌, List, [], ◌∷◌, ◌++◌, length, length-append, get_or, take, drop, set, map, Vec, append_assoc, append-nil, bytes_eq, ◌⊎◌, inl, inr}
+use Rattle.std.proofs.Common.{◌≡◌, ◌<◌, ◌≤◌, ◌+◌, ℕ, zero, suc, refl, ap, sym, ◌∙◌, arith, subst, Bool, true, false, List, [], ◌∷◌, ◌++◌, length, length-append, get_or, take, drop, set, map, Vec, append_assoc, append-nil, ◌⊎◌, inl, inr}
 use Rattle.std.proofs.Math.ListN.{get_or-append}
 use Rattle.std.proofs.Math.Seq.{get_or-append_seam}
-use Rattle.std.proofs.lemmas.List.{take-append-drop, length-map}
-use Rattle.std.proofs.lemmas.Slice.Eq.{bytes_eq-Decides}
+use Rattle.std.proofs.lemmas.List.{take-append-drop}
 use Rattle.std.specs.List.{AllByRecursion as Every, flat_map}
 use Rattle.std.specs.declared.alloc.Global.{Global}
-use Rattle.uq_value.specs.Data.{Bytes, is_among}
+use Rattle.uq_value.specs.Data.{Bytes}
 use Rattle.uq_value.specs.Internal.NameOrder.{key, digest, is_before}
-use Rattle.uq_value.specs.Internal.Index.{Blocks, entries, label, front, rest, AllBefore, AllBehind, AllWithin, Ascending, HasKey, IsIndex, IsIndexOf, IsFilled, Belongs}
-use Rattle.uq_value.specs.declared.names.Entry.{Entry}
+use Rattle.uq_value.specs.Internal.Blocks.{Blocks, entries, label, front, rest, AllBefore, AllBehind, AllWithin, Ascending, HasKey, IsSorted, IsFilled, Belongs, Enters, SameEntries}
+use Rattle.uq_value.specs.declared.blocks.Entry.{Entry}
 use Rattle.uq_value.proofs.Rows.{every-append, every-first, every-last, every-weaker, halves, rest-end}
 use Rattle.uq_value.proofs.Searches.{Parts, parts, joined, has-split}
 
@@ -68,18 +67,6 @@ module _ (ns : List Bytes) where
   insert-has : (k : List ℕ) (e : Entry) (xs ys : List Entry) → HasKey ns k (xs ++ ys) → HasKey ns k (xs ++ e ∷ ys)
   insert-has k e xs ys h = elim (has-split ns k xs ys h) as (λ z. HasKey ns k (xs ++ e ∷ ys)) [ inl p ↦ first-has k xs (e ∷ ys) p | inr q ↦ last-has k xs (e ∷ ys) (inr q) ]
 
-among-last : (n name : Bytes) (ns : List Bytes) → is_among n (ns ++ name ∷ []) ≡ true → (is_among n ns ≡ true) ⊎ (name ≡ n)
-among-last n name [] h = split (bytes_eq name n) refl
-  where
-    split : (b : Bool) → bytes_eq name n ≡ b → (is_among n [] ≡ true) ⊎ (name ≡ n)
-    split true t = inr ((bytes_eq-Decides name n).0 t)
-    split false t = absurd (let x : (bytes_eq name n || false) ≡ false = ap (λ b. b || false) t in cc)
-among-last n name (m ∷ ns) h = split (among-last n name ns) (bytes_eq m n) refl
-  where
-    split : (is_among n (ns ++ name ∷ []) ≡ true → (is_among n ns ≡ true) ⊎ (name ≡ n)) → (b : Bool) → bytes_eq m n ≡ b → (is_among n (m ∷ ns) ≡ true) ⊎ (name ≡ n)
-    split o true t = inl (ap (λ b. b || is_among n ns) t)
-    split o false t = elim (o (sym (ap (λ b. b || is_among n (ns ++ name ∷ [])) t) ∙ h)) as (λ x. (is_among n (m ∷ ns) ≡ true) ⊎ (name ≡ n)) [ inl q ↦ inl (ap (λ b. b || is_among n ns) t ∙ q) | inr q ↦ inr q ]
-
 label-same : (ns : List Bytes) (name : Bytes) (e : Entry) → e.at < length ns → label (ns ++ name ∷ []) e ≡ label ns e
 label-same ns name e h = ap (λ n. e.digest ∷ n) (get_or-append ns (name ∷ []) [] e.at h)
 
@@ -88,14 +75,14 @@ module _ (ns : List Bytes) (name : Bytes) where
   behind-same k [] w a = tt
   behind-same k (e ∷ es) w a = (subst (λ l. is_before k l ≡ true) (sym (label-same ns name e w.0)) a.0, behind-same k es w.1 a.1)
 
-  rises-same : (es : List Entry) → AllWithin ns es → Ascending ns es → Ascending (ns ++ name ∷ []) es
+  pub rises-same : (es : List Entry) → AllWithin ns es → Ascending ns es → Ascending (ns ++ name ∷ []) es
   rises-same [] w a = tt
   rises-same (e ∷ es) w a = (subst (λ l. AllBehind (ns ++ name ∷ []) l es) (sym (label-same ns name e w.0)) (behind-same (label ns e) es w.1 a.0), rises-same es w.1 a.1)
 
-  within-more : (es : List Entry) → AllWithin ns es → AllWithin (ns ++ name ∷ []) es
+  pub within-more : (es : List Entry) → AllWithin ns es → AllWithin (ns ++ name ∷ []) es
   within-more es w = every-weaker (λ e. e.at < length ns) (λ e. e.at < length (ns ++ name ∷ [])) (λ e h. omega (arith, h, length-append ns (name ∷ []))) es w
 
-  has-same : (k : List ℕ) (es : List Entry) → AllWithin ns es → HasKey ns k es → HasKey (ns ++ name ∷ []) k es
+  pub has-same : (k : List ℕ) (es : List Entry) → AllWithin ns es → HasKey ns k es → HasKey (ns ++ name ∷ []) k es
   has-same k [] w h = h
   has-same k (e ∷ es) w h = elim h as (λ x. HasKey (ns ++ name ∷ []) k (e ∷ es)) [ inl p ↦ inl (label-same ns name e w.0 ∙ p) | inr q ↦ inr (has-same k es w.1 q) ]
 
@@ -112,39 +99,42 @@ module _ (ns : List Bytes) (name : Bytes) where
       across [] v d r = tt
       across (z ∷ zs) v d r = (((ap (λ k. is_before k (label (ns ++ name ∷ []) e)) (label-same ns name z v.0) ∙ ap (λ k. is_before (label ns z) k) l) ∙ d.0, r.0), across zs v.1 d.1 r.1)
 
-  module _ (bs after : Blocks) (block at : ℕ) (e : Entry) (i : IsIndex ns bs) (b : Belongs ns name bs block at) (d : e.digest ≡ digest name) (p : e.at ≡ length ns) (now : entries after ≡ front bs block at ++ e ∷ rest bs block at) (f : IsFilled after) where
+  module _ (bs after : Blocks) (block at : ℕ) (e : Entry) (i : IsSorted ns bs) (b : Belongs ns name bs block at) (d : e.digest ≡ digest name) (p : e.at ≡ length ns) (now : entries after ≡ front bs block at ++ e ∷ rest bs block at) (f : IsFilled after) where
     label-is : label (ns ++ name ∷ []) e ≡ key name
     label-is = ap (λ j. e.digest ∷ get_or (ns ++ name ∷ []) j []) p ∙ ap (λ n. e.digest ∷ n) (get_or-append_seam ns name [] []) ∙ ap (λ h. h ∷ name) d
 
     all-within : AllWithin ns (front bs block at ++ rest bs block at)
     all-within = subst (λ es. AllWithin ns es) (sym (halves bs block at)) i.within
 
-    pub extended : IsIndex (ns ++ name ∷ []) after
+    pub extended : Enters ns name bs after
     extended = record {
-      within = subst (λ es. AllWithin (ns ++ name ∷ []) es) (sym now) (
-          let w : AllWithin (ns ++ name ∷ []) (front bs block at ++ rest bs block at) = within-more (front bs block at ++ rest bs block at) all-within in
-          every-append _ (front bs block at) (e ∷ rest bs block at) (every-first _ (front bs block at) (rest bs block at) w) (omega (arith, p, length-append ns (name ∷ [])), every-last _ (front bs block at) (rest bs block at) w));
-      ascending = subst (λ es. Ascending (ns ++ name ∷ []) es) (sym now) (extended-rises e (front bs block at) (rest bs block at) label-is
-          all-within (subst (λ es. Ascending ns es) (sym (halves bs block at)) i.ascending) b.front_before b.rest_behind);
-      complete = λ n h. subst (λ es. HasKey (ns ++ name ∷ []) (key n) es) (sym now) (
-          elim (among-last n name ns h) as (λ x. HasKey (ns ++ name ∷ []) (key n) (front bs block at ++ e ∷ rest bs block at)) [
-            | inl q ↦ insert-has (ns ++ name ∷ []) (key n) e (front bs block at) (rest bs block at) (has-same (key n) (front bs block at ++ rest bs block at) all-within (subst (λ es. HasKey ns (key n) es) (sym (halves bs block at)) (i.complete n q)))
-            | inr q ↦ last-has (ns ++ name ∷ []) (key n) (front bs block at) (e ∷ rest bs block at) (inl (label-is ∙ ap (λ m. key m) q))
-          ]);
-      filled = f;
+      sorted = record {
+        within = subst (λ es. AllWithin (ns ++ name ∷ []) es) (sym now) (
+            let w : AllWithin (ns ++ name ∷ []) (front bs block at ++ rest bs block at) = within-more (front bs block at ++ rest bs block at) all-within in
+            every-append _ (front bs block at) (e ∷ rest bs block at) (every-first _ (front bs block at) (rest bs block at) w) (omega (arith, p, length-append ns (name ∷ [])), every-last _ (front bs block at) (rest bs block at) w));
+        ascending = subst (λ es. Ascending (ns ++ name ∷ []) es) (sym now) (extended-rises e (front bs block at) (rest bs block at) label-is
+            all-within (subst (λ es. Ascending ns es) (sym (halves bs block at)) i.ascending) b.front_before b.rest_behind);
+        filled = f;
+      };
+      keeps = λ k h. subst (λ es. HasKey (ns ++ name ∷ []) k es) (sym now)
+          (insert-has (ns ++ name ∷ []) k e (front bs block at) (rest bs block at) (has-same k (front bs block at ++ rest bs block at) all-within (subst (λ es. HasKey ns k es) (sym (halves bs block at)) h)));
+      has = subst (λ es. HasKey (ns ++ name ∷ []) (key name) es) (sym now) (last-has (ns ++ name ∷ []) (key name) (front bs block at) (e ∷ rest bs block at) (inl label-is));
     }
 
--- an index of which the entries are the same
-pub kept : (ns : List Bytes) (bs after : Blocks) → IsIndex ns bs → entries after ≡ entries bs → IsFilled after → IsIndex ns after
-kept ns bs after i e f = record {
-  within = subst (λ es. AllWithin ns es) (sym e) i.within;
-  ascending = subst (λ es. Ascending ns es) (sym e) i.ascending;
-  complete = λ name h. subst (λ es. HasKey ns (key name) es) (sym e) (i.complete name h);
-  filled = f;
+  -- blocks to which nothing comes
+  pub sorted-more : (bs : Blocks) → IsSorted ns bs → IsSorted (ns ++ name ∷ []) bs
+  sorted-more bs i = record { within = within-more (entries bs) i.within; ascending = rises-same (entries bs) i.within i.ascending; filled = i.filled }
+
+-- the same entries cut in another way
+pub kept : (ns : List Bytes) (bs after : Blocks) → IsSorted ns bs → SameEntries bs after → IsSorted ns after
+kept ns bs after i e = record {
+  within = subst (λ es. AllWithin ns es) (sym e.same) i.within;
+  ascending = subst (λ es. Ascending ns es) (sym e.same) i.ascending;
+  filled = e.filled;
 }
 
-pub no-index : (bs : Blocks) → bs ≡ [] → IsIndex [] bs
-no-index bs e = rw e (record { within = tt; ascending = tt; complete = λ n h. absurd (cc); filled = tt })
+pub no-blocks : (ns : List Bytes) (bs : Blocks) → bs ≡ [] → IsSorted ns bs
+no-blocks ns bs e = rw e (record { within = tt; ascending = tt; filled = tt })
 
 -- an entry behind all others
 pub at-end : (bs : Blocks) (block at : ℕ) (e : Entry) → length bs ≤ block → entries bs ++ e ∷ [] ≡ front bs block at ++ e ∷ rest bs block at
@@ -173,9 +163,9 @@ unfolding rows
 rows-filled [] f = tt
 rows-filled (b ∷ bs) f = (f.0, rows-filled bs f.1)
 
-pub copied : (ns : List Bytes) (bs after : Blocks) → map (λ b. b.items) after ≡ map (λ b. b.items) bs → IsIndexOf ns bs → IsIndexOf ns after
+pub copied : (bs after : Blocks) → map (λ b. b.items) after ≡ map (λ b. b.items) bs → IsFilled bs → SameEntries bs after
 unfolding rows
-copied ns bs after e i = λ h.
-    let long : length after ≡ length bs = sym (length-map after (λ b. b.items)) ∙ ap (λ xs. length xs) e ∙ length-map bs (λ b. b.items) in
-    let j : IsIndex ns bs = i (omega (arith, h, long)) in
-    kept ns bs after j (entries-rows after ∙ ap (λ xs. flat_map (λ es. es) xs) e ∙ sym (entries-rows bs)) (rows-filled after (subst (λ xs. Every (λ es. 0 < length es) xs) (sym e) (filled-rows bs j.filled)))
+copied bs after e f = record {
+  same = entries-rows after ∙ ap (λ xs. flat_map (λ es. es) xs) e ∙ sym (entries-rows bs);
+  filled = rows-filled after (subst (λ xs. Every (λ es. 0 < length es) xs) (sym e) (filled-rows bs f));
+}

@@ -7,7 +7,7 @@ use Rattle.uq_value.specs.Depth.{data_depth}
 use Rattle.uq_value.specs.Plain.{plain, members, depth}
 use Rattle.uq_value.specs.Internal.Kept.{plain_member, IsList, IsObject}
 use Rattle.uq_value.specs.Internal.Names.{name_of, names, member_depth}
-use Rattle.uq_value.specs.Internal.Beside.{CountsAre, NamesAre}
+use Rattle.uq_value.specs.Internal.Beside.{size_of, depth_of, CountsAre, NamesAre}
 use Rattle.uq_value.specs.declared.value.Value.{Value}
 use Rattle.uq_value.specs.declared.object.Member.{Member}
 use Rattle.uq_value.specs.declared.list.List.TheInside.{Inside as InList}
@@ -21,7 +21,7 @@ members-plain (m ∷ ms) = λ i. (name_of m, value_of-plain m.value i) ∷ membe
 
 -- ---- the empty ones
 
-pub no_list : (l : InList) → l.items.items ≡ [] → l.kept.size ≡ 2 → l.kept.depth ≡ 1 → ((ds : List ℕ) → CountsAre l.kept ds) → IsList l
+pub no_list : (l : InList) → l.items.items ≡ [] → size_of l.kept ≡ 2 → depth_of l.kept ≡ 1 → ((ds : List ℕ) → CountsAre l.kept ds) → IsList l
 unfolding leb_size
 no_list l e s d c =
     record {
@@ -33,7 +33,7 @@ no_list l e s d c =
       sound = rw e tt;
     }
 
-pub no_object : (o : InObject) → o.members.items ≡ [] → o.kept.size ≡ 2 → o.kept.depth ≡ 1 → ((ds : List ℕ) → CountsAre o.kept ds) → ((ns : List Bytes) → NamesAre o.kept ns) → IsObject o
+pub no_object : (o : InObject) → o.members.items ≡ [] → size_of o.kept ≡ 2 → depth_of o.kept ≡ 1 → ((ds : List ℕ) → CountsAre o.kept ds) → ((ns : List Bytes) → NamesAre o.kept ns) → IsObject o
 unfolding leb_size
 no_object o e s d c n =
     record {

@@ -21,4 +21,5 @@ pub mod Rows
 pub mod NamePlaces
 pub mod Searches
 pub mod Edits
+pub mod Slots
 pub mod Tallies

@@ -7,7 +7,7 @@ use Rattle.uq_value.specs.Size.{data_size, leb_size, most_size}
 use Rattle.uq_value.specs.Depth.{data_depth, most_depth}
 use Rattle.std.specs.List.{All}
 use Rattle.uq_value.specs.Internal.Tally.{deepest_of}
-use Rattle.uq_value.specs.Internal.Beside.{CountsAre, Mends}
+use Rattle.uq_value.specs.Internal.Beside.{size_of, depth_of, CountsAre, Mends}
 use Rattle.uq_value.specs.Plain.{plain, value_of, size, depth}
 use Rattle.uq_value.specs.IsValue.{IsSound, ItemsAreSound}
 use Rattle.uq_value.specs.Internal.Kept.{list_view, IsList}
@@ -57,25 +57,25 @@ module _ (l : InList) (h : IsList l) (ds : Datas) (view_is : list_view l ≡ ds)
   part-is : get_or ds at (plain x) ≡ plain x
   part-is = ap (λ es. get_or es at (plain x)) (sym view_is) ∙ get_or-map plain l.items.items at x (plain x) inside ∙ ap (λ y. plain y) (sym x-is)
 
-  size-is : l.kept.size ≡ 1 + leb_size (length ds) + total data_size ds
+  size-is : size_of l.kept ≡ 1 + leb_size (length ds) + total data_size ds
   size-is = h.size_is ∙ ap (λ es. data_size (list es)) view_is ∙ list-size ds
 
-  pub no-less : size x ≤ l.kept.size
+  pub no-less : size x ≤ size_of l.kept
   no-less = omega (arith, size-is, total-get_or data_size ds at (plain x) within, ap (λ d. data_size d) part-is)
 
-  pub sized : (w : Value) → size (with_child (nth at) w (Value.List ds)) ≡ (l.kept.size - size x) + size w
+  pub sized : (w : Value) → size (with_child (nth at) w (Value.List ds)) ≡ (size_of l.kept - size x) + size w
   sized w =
       ap (λ v. size v) (ap Value.List (with_item-within at (plain w) ds within)) ∙ list-size (set ds at (plain w))
       ∙ ap (λ n. 1 + leb_size n + total data_size (set ds at (plain w))) (length-set ds at (plain w))
       ∙ omega (arith, size-is, total-set data_size ds at (plain w) (plain x) within, total-get_or data_size ds at (plain x) within, ap (λ d. data_size d) part-is)
 
-  module _ (room left : ℕ) (left-is : left ≡ room - (l.kept.size - size x)) (rest : List Step) (new : Value) where
+  module _ (room left : ℕ) (left-is : left ≡ room - (size_of l.kept - size x)) (rest : List Step) (new : Value) where
     pub refused : (e : ValueFault) → Refuses (put_in left rest new x) e → Refuses (put_at room (nth at) rest new (Value.List ds)) e
-    refused e o = level-refused room (l.kept.size - size x) (nth at) (Value.List ds) sized rest new x child-is left left-is e o
+    refused e o = level-refused room (size_of l.kept - size x) (nth at) (Value.List ds) sized rest new x child-is left left-is e o
 
     module _ (w : Value) (o : put_in left rest new x ≡ Ok w) where
       pub done : (after : Datas) → after ≡ map plain (set l.items.items at w) → put_at room (nth at) rest new (Value.List ds) ≡ Ok (Value.List after)
-      done after a = level-ok room (l.kept.size - size x) (nth at) (Value.List ds) sized rest new x child-is left left-is w o ∙ ap (λ v. ok v) (after-is w ∙ ap Value.List (sym a))
+      done after a = level-ok room (size_of l.kept - size x) (nth at) (Value.List ds) sized rest new x child-is left left-is w o ∙ ap (λ v. ok v) (after-is w ∙ ap Value.List (sym a))
 
       -- what is asked of the numbers before they are mended
       module _ (small : room ≤ most_size) (shallow : length rest + depth new < most_depth) where
@@ -85,16 +85,16 @@ module _ (l : InList) (h : IsList l) (ds : Datas) (view_is : list_view l ≡ ds)
         deep : Between (depth x) (length rest + depth new) (depth w)
         deep = put_within-depth rest new x w r.gives
 
-        old-depth : l.kept.depth ≡ 1 + deepest_of (map depth l.items.items)
+        old-depth : depth_of l.kept ≡ 1 + deepest_of (map depth l.items.items)
         old-depth = list-deepest l h
 
-        pub part-kept : depth x + 1 ≤ l.kept.depth
+        pub part-kept : depth x + 1 ≤ depth_of l.kept
         part-kept = omega (arith, old-depth, part-within depth l.items.items at x inside, ap (λ y. depth y) (sym x-is))
 
         pub part-now : depth w < most_depth
         part-now = omega (arith, deep.most, shallow, part-kept, h.depth_within)
 
-        pub size-now : l.kept.size - size x + size w ≤ most_size
+        pub size-now : size_of l.kept - size x + size w ≤ most_size
         size-now = omega (arith, left-is, r.small, some-size (plain w), small)
 
         whole : Between (data_depth (list ds)) (1 + depth w) (depth (with_child (nth at) w (Value.List ds)))
@@ -112,10 +112,10 @@ module _ (l : InList) (h : IsList l) (ds : Datas) (view_is : list_view l ≡ ds)
         pub few-now : length (set l.items.items at w) + 1 < 2 ^ 32
         few-now = omega (arith, length-set l.items.items at w, few-items l h, length-map l.items.items depth)
 
-        pub is_list : IsSound (plain w) → (q : InList) → q.items.items ≡ set l.items.items at w → q.kept.size ≡ l.kept.size - size x + size w → Mends l.kept q.kept (depth x) (depth w) (map depth (set l.items.items at w)) → IsList q
+        pub is_list : IsSound (plain w) → (q : InList) → q.items.items ≡ set l.items.items at w → size_of q.kept ≡ size_of l.kept - size x + size w → Mends l.kept q.kept (depth x) (depth w) (map depth (set l.items.items at w)) → IsList q
         is_list sound q i s m =
             let view : list_view q ≡ map plain (set l.items.items at w) = ap (λ vs. map plain vs) i in
-            let n : (q.kept.depth ≡ 1 + deepest_of (map depth (set l.items.items at w))) × CountsAre q.kept (map depth (set l.items.items at w)) = mended depth l.kept q.kept l.items.items at x w inside x-is m h.counts old-depth in
+            let n : (depth_of q.kept ≡ 1 + deepest_of (map depth (set l.items.items at w))) × CountsAre q.kept (map depth (set l.items.items at w)) = mended depth l.kept q.kept l.items.items at x w inside x-is m h.counts old-depth in
             record {
               size_is = s ∙ sym (ap (λ es. data_size (list es)) view ∙ ap (λ v. size v) (sym (after-is w)) ∙ sized w);
               depth_is = n.0 ∙ ap (λ k. 1 + k) (sym (items-deepest (set l.items.items at w))) ∙ ap (λ es. data_depth (list es)) (sym view);

@@ -42,6 +42,15 @@ place-missing (n ∷ ns) name h = split (place-missing ns name) (bytes_eq n name
     split o true t = absurd (let x : (bytes_eq n name || is_among name ns) ≡ true = ap (λ b. b || is_among name ns) t in cc)
     split o false t = ap (λ b. if b then 0 else 1 + place_of name ns) t ∙ omega (arith, o (sym (ap (λ b. b || is_among name ns) t) ∙ h))
 
+-- a name that is at no place is nowhere
+pub place-none : (ns : List Bytes) (name : Bytes) → ((at : ℕ) → at < length ns → get_or ns at [] ≡ name → ⊥) → place_of name ns ≡ length ns
+place-none [] name h = refl
+place-none (n ∷ ns) name h = split (place-none ns name (λ at i e. h (suc at) (omega (arith, i)) e)) (bytes_eq n name) refl
+  where
+    split : place_of name ns ≡ length ns → (b : Bool) → bytes_eq n name ≡ b → (if bytes_eq n name then 0 else 1 + place_of name ns) ≡ length (n ∷ ns)
+    split o true t = absurd (h 0 (omega arith) ((bytes_eq-Decides n name).0 t))
+    split o false t = ap (λ b. if b then 0 else 1 + place_of name ns) t ∙ omega (arith, o)
+
 -- whether two keys are the same, where their first numbers are
 pub key-decided : (m n : ℕ) (xs ys : Bytes) (b : Bool) → m ≡ n → b ≡ bytes_eq xs ys → MatchBool b (m ∷ xs ≡ n ∷ ys) (m ∷ xs ≡ n ∷ ys → ⊥)
 key-decided m n xs ys true e h = let x : xs ≡ ys = (bytes_eq-Decides xs ys).0 (sym h) in cc

@@ -7,7 +7,7 @@ use Rattle.uq_value.specs.Depth.{data_depth, most_depth}
 use Rattle.std.specs.List.{All}
 use Rattle.uq_value.specs.Internal.Names.{name_of, names, member_depth}
 use Rattle.uq_value.specs.Internal.Tally.{deepest_of}
-use Rattle.uq_value.specs.Internal.Beside.{CountsAre, NamesAre, Mends}
+use Rattle.uq_value.specs.Internal.Beside.{size_of, depth_of, CountsAre, NamesAre, Mends}
 use Rattle.uq_value.specs.Plain.{plain, value_of, size, depth}
 use Rattle.uq_value.specs.IsValue.{IsSound, MembersAreSound}
 use Rattle.uq_value.specs.Internal.Kept.{plain_member, object_view, IsObject}
@@ -76,28 +76,28 @@ module _ (o : InObject) (h : IsObject o) (ms : Pairs) (view_is : object_view o �
   after-is : (w : Value) → with_child (named (name_at ms at)) w (Value.Object ms) ≡ Value.Object (map plain_member (set o.members.items at (with_value m w)))
   after-is w = written-is w ∙ ap Value.Object (sym (view-set w))
 
-  size-is : o.kept.size ≡ 1 + leb_size (length ms) + total pair_size ms
+  size-is : size_of o.kept ≡ 1 + leb_size (length ms) + total pair_size ms
   size-is = h.size_is ∙ ap (λ ns. data_size (object ns)) view_is ∙ object-size ms
 
   part-size : pair_size (get_or ms at (plain_member m)) ≡ name_size (name_of m) + size m.value
   part-size = ap (λ p. pair_size p) part-is
 
-  pub no-less : size m.value ≤ o.kept.size
+  pub no-less : size m.value ≤ size_of o.kept
   no-less = omega (arith, size-is, total-get_or pair_size ms at (plain_member m) within, part-size)
 
-  pub sized : (w : Value) → size (with_child (named (name_at ms at)) w (Value.Object ms)) ≡ (o.kept.size - size m.value) + size w
+  pub sized : (w : Value) → size (with_child (named (name_at ms at)) w (Value.Object ms)) ≡ (size_of o.kept - size m.value) + size w
   sized w =
       ap (λ v. size v) (written-is w) ∙ object-size (set ms at (name_of m, plain w))
       ∙ ap (λ n. 1 + leb_size n + total pair_size (set ms at (name_of m, plain w))) (length-set ms at (name_of m, plain w))
       ∙ omega (arith, size-is, total-set pair_size ms at (name_of m, plain w) (plain_member m) within, total-get_or pair_size ms at (plain_member m) within, part-size)
 
-  module _ (room left : ℕ) (left-is : left ≡ room - (o.kept.size - size m.value)) (rest : List Step) (new : Value) where
+  module _ (room left : ℕ) (left-is : left ≡ room - (size_of o.kept - size m.value)) (rest : List Step) (new : Value) where
     pub refused : (e : ValueFault) → Refuses (put_in left rest new m.value) e → Refuses (put_at room (named (name_at ms at)) rest new (Value.Object ms)) e
-    refused e r = level-refused room (o.kept.size - size m.value) (named (name_at ms at)) (Value.Object ms) sized rest new m.value child-is left left-is e r
+    refused e r = level-refused room (size_of o.kept - size m.value) (named (name_at ms at)) (Value.Object ms) sized rest new m.value child-is left left-is e r
 
     module _ (w : Value) (r : put_in left rest new m.value ≡ Ok w) where
       pub done : (after : Pairs) → after ≡ map plain_member (set o.members.items at (with_value m w)) → put_at room (named (name_at ms at)) rest new (Value.Object ms) ≡ Ok (Value.Object after)
-      done after a = level-ok room (o.kept.size - size m.value) (named (name_at ms at)) (Value.Object ms) sized rest new m.value child-is left left-is w r ∙ ap (λ v. ok v) (after-is w ∙ ap Value.Object (sym a))
+      done after a = level-ok room (size_of o.kept - size m.value) (named (name_at ms at)) (Value.Object ms) sized rest new m.value child-is left left-is w r ∙ ap (λ v. ok v) (after-is w ∙ ap Value.Object (sym a))
 
       -- what is asked of the numbers before they are mended
       module _ (small : room ≤ most_size) (shallow : length rest + depth new < most_depth) where
@@ -107,16 +107,16 @@ module _ (o : InObject) (h : IsObject o) (ms : Pairs) (view_is : object_view o �
         deep : Between (depth m.value) (length rest + depth new) (depth w)
         deep = put_within-depth rest new m.value w fit.gives
 
-        old-depth : o.kept.depth ≡ 1 + deepest_of (map member_depth o.members.items)
+        old-depth : depth_of o.kept ≡ 1 + deepest_of (map member_depth o.members.items)
         old-depth = object-deepest o h
 
-        pub part-kept : depth m.value + 1 ≤ o.kept.depth
+        pub part-kept : depth m.value + 1 ≤ depth_of o.kept
         part-kept = omega (arith, old-depth, part-within member_depth o.members.items at m inside, ap (λ n. member_depth n) (sym m-is))
 
         pub part-now : depth w < most_depth
         part-now = omega (arith, deep.most, shallow, part-kept, h.depth_within)
 
-        pub size-now : o.kept.size - size m.value + size w ≤ most_size
+        pub size-now : size_of o.kept - size m.value + size w ≤ most_size
         size-now = omega (arith, left-is, fit.small, some-size (plain w), small)
 
         whole : Between (data_depth (object ms)) (1 + depth w) (depth (with_child (named (name_at ms at)) w (Value.Object ms)))
@@ -134,12 +134,12 @@ module _ (o : InObject) (h : IsObject o) (ms : Pairs) (view_is : object_view o �
         pub few-now : length (set o.members.items at (with_value m w)) + 1 < 2 ^ 32
         few-now = omega (arith, length-set o.members.items at (with_value m w), few-members o h, length-map o.members.items member_depth)
 
-        pub is_object : IsSound (plain w) → (q : InObject) → q.members.items ≡ set o.members.items at (with_value m w) → q.kept.size ≡ o.kept.size - size m.value + size w
+        pub is_object : IsSound (plain w) → (q : InObject) → q.members.items ≡ set o.members.items at (with_value m w) → size_of q.kept ≡ size_of o.kept - size m.value + size w
             → Mends o.kept q.kept (depth m.value) (depth w) (map member_depth (set o.members.items at (with_value m w))) → NamesAre q.kept (names o.members.items) → IsObject q
         is_object sound q i s d x =
             let view : object_view q ≡ map plain_member (set o.members.items at (with_value m w)) = ap (λ ns. map plain_member ns) i in
             let same : names q.members.items ≡ names o.members.items = ap (λ ns. names ns) i ∙ names-kept o.members.items at m w inside m-is in
-            let n : (q.kept.depth ≡ 1 + deepest_of (map member_depth (set o.members.items at (with_value m w)))) × CountsAre q.kept (map member_depth (set o.members.items at (with_value m w))) = mended member_depth o.kept q.kept o.members.items at m (with_value m w) inside m-is d h.counts old-depth in
+            let n : (depth_of q.kept ≡ 1 + deepest_of (map member_depth (set o.members.items at (with_value m w)))) × CountsAre q.kept (map member_depth (set o.members.items at (with_value m w))) = mended member_depth o.kept q.kept o.members.items at m (with_value m w) inside m-is d h.counts old-depth in
             record {
               size_is = s ∙ sym (ap (λ ns. data_size (object ns)) view ∙ ap (λ v. size v) (sym (after-is w)) ∙ sized w);
               depth_is = n.0 ∙ ap (λ k. 1 + k) (sym (members-deepest (set o.members.items at (with_value m w)))) ∙ ap (λ ns. data_depth (object ns)) (sym view);

@@ -4,8 +4,8 @@ use Rattle.std.proofs.Math.Seq.{take-length, take-suc}
 use Rattle.std.proofs.lemmas.List.{take-append-drop, map-append}
 use Rattle.std.specs.List.{AllByRecursion as Every}
 use Rattle.std.specs.declared.alloc.Global.{Global}
-use Rattle.uq_value.specs.Internal.Index.{Blocks, entries, front, rest}
-use Rattle.uq_value.specs.declared.names.Entry.{Entry}
+use Rattle.uq_value.specs.Internal.Blocks.{Blocks, entries, front, rest}
+use Rattle.uq_value.specs.declared.blocks.Entry.{Entry}
 
 module _ {X : Type 0} (P : X → Type 0) where
   pub every-get : (xs : List X) (i : ℕ) (d : X) → i < length xs → Every P xs → P (get_or xs i d)
@@ -78,6 +78,10 @@ rest-head (c ∷ bs) (suc block) at b e h k = rest-head bs block at b e (omega (
 pub on-err : {A E : Type 0} (r : Result A E) (X : Type 0) → X → OnErr r X
 on-err (Ok a) X x = tt
 on-err (Err e) X x = x
+
+pub on-err-then : {A E : Type 0} (r : Result A E) (X Y : Type 0) → (X → Y) → OnErr r X → OnErr r Y
+on-err-then (Ok a) X Y f x = tt
+on-err-then (Err e) X Y f x = f x
 
 pub on-ok : {A E : Type 0} (r : Result A E) (X Y : Type 0) → (X → Y) → OnOk r X → OnOk r Y
 on-ok (Ok a) X Y f x = f x

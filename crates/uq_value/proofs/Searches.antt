@@ -4,13 +4,14 @@ use Rattle.std.proofs.Math.Seq.{take-length}
 use Rattle.std.proofs.lemmas.Bool.Decides.{nat_tests}
 use Rattle.std.specs.List.{AllByRecursion as Every}
 use Rattle.std.specs.declared.alloc.Global.{Global}
-use Rattle.uq_value.specs.Data.{Bytes, is_among, IsDistinct}
+use Rattle.uq_value.specs.Data.{Bytes, IsDistinct}
 use Rattle.uq_value.specs.Internal.NameOrder.{key, is_before}
-use Rattle.uq_value.specs.Internal.Index.{Blocks, entries, label, front, rest, AllBefore, AllBehind, AllWithin, NoneBefore, Ascending, HasKey, IsIndex, IsFilled, SplitsBlocks, Splits, IsFound, IsMissing}
-use Rattle.uq_value.specs.declared.names.Entry.{Entry}
+use Rattle.uq_value.specs.Internal.Blocks.{Blocks, entries, label, front, rest, AllBefore, AllBehind, AllWithin, NoneBefore, Ascending, HasKey, IsSorted, IsFilled, SplitsBlocks, Splits, IsMissing}
+use Rattle.uq_value.specs.Internal.Names.{IsFound}
+use Rattle.uq_value.specs.declared.blocks.Entry.{Entry}
 use Rattle.uq_value.proofs.Keys.{before-trans, before-itself, before-not, before-other}
 use Rattle.uq_value.proofs.Rows.{every-get, every-append, every-first, every-last, every-weaker, take-all, every-block, front-every, rest-every, halves, any-default}
-use Rattle.uq_value.proofs.NamePlaces.{place-at, place-missing}
+use Rattle.uq_value.proofs.NamePlaces.{place-at}
 
 module _ (ns : List Bytes) where
   -- the parts of a row that rises
@@ -94,7 +95,7 @@ module _ (ns : List Bytes) (k : List ℕ) where
     rest_not = rest-every _ bs block 0 (λ b h. absurd (omega (arith, h, e))) (λ h. absurd (omega (arith, h, e)));
   }
 
-  module _ (bs : Blocks) (block at : ℕ) (v : Vec Entry Global) (i : IsIndex ns bs) (o : SplitsBlocks ns k bs block) (h : block < length bs) (v-is : v ≡ get_or bs block v) (m : at ≤ length v.items) (x : AllBefore ns k (take at v.items)) (y : NoneBefore ns k (drop at v.items)) where
+  module _ (bs : Blocks) (block at : ℕ) (v : Vec Entry Global) (i : IsSorted ns bs) (o : SplitsBlocks ns k bs block) (h : block < length bs) (v-is : v ≡ get_or bs block v) (m : at ≤ length v.items) (x : AllBefore ns k (take at v.items)) (y : NoneBefore ns k (drop at v.items)) where
     same : (b : Vec Entry Global) → get_or bs block b ≡ v
     same b = any-default bs block b v h ∙ sym v-is
 
@@ -129,18 +130,13 @@ pub has-split : (ns : List Bytes) (k : List ℕ) (xs ys : List Entry) → HasKey
 has-split ns k [] ys h = inr h
 has-split ns k (x ∷ xs) ys h = elim h as (λ z. HasKey ns k (x ∷ xs) ⊎ HasKey ns k ys) [ inl p ↦ inl (inl p) | inr q ↦ elim (has-split ns k xs ys q) as (λ z. HasKey ns k (x ∷ xs) ⊎ HasKey ns k ys) [ inl p ↦ inl (inr p) | inr r ↦ inr r ] ]
 
-module _ (ns : List Bytes) (name : Bytes) (bs : Blocks) (block at : ℕ) (i : IsIndex ns bs) (s : Splits ns (key name) bs block at) where
+module _ (ns : List Bytes) (name : Bytes) (bs : Blocks) (block at : ℕ) (i : IsSorted ns bs) (s : Splits ns (key name) bs block at) where
   missing-where : AllBehind ns (key name) (rest bs block at) → IsMissing ns name bs block at
   missing-where b = record {
-    place = place-missing ns name (split (is_among name ns) refl);
+    lacks = λ h. elim (has-split ns (key name) (front bs block at) (rest bs block at) (subst (λ es. HasKey ns (key name) es) (sym (halves bs block at)) h)) as (λ z. ⊥)
+        [ inl p ↦ none-before ns (key name) (front bs block at) s.front_before p | inr q ↦ none-behind ns (key name) (rest bs block at) b q ];
     belongs = record { place = s.place; front_before = s.front_before; rest_behind = b };
   }
-    where
-      split : (t : Bool) → is_among name ns ≡ t → is_among name ns ≡ false
-      split false e = e
-      split true e = absurd (
-          elim (has-split ns (key name) (front bs block at) (rest bs block at) (subst (λ es. HasKey ns (key name) es) (sym (halves bs block at)) (i.complete name e))) as (λ z. ⊥)
-          [ inl p ↦ none-before ns (key name) (front bs block at) s.front_before p | inr q ↦ none-behind ns (key name) (rest bs block at) b q ])
 
   rest-rises : Ascending ns (rest bs block at)
   rest-rises = (parts ns (front bs block at) (rest bs block at) (subst (λ es. Ascending ns es) (sym (halves bs block at)) i.ascending)).last

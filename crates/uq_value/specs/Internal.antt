@@ -6,6 +6,8 @@ pub mod Writing
 pub mod Reaching
 pub mod NameOrder
 pub mod Names
+pub mod Blocks
+pub mod Table
 pub mod Index
 pub mod Tally
 pub mod Beside

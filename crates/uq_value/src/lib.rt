@@ -1,6 +1,7 @@
 //! Values of the script language and the store: null, booleans, whole numbers, texts, lists and objects.
 #![tactic(auto)]
 
+mod blocks;
 mod builder;
 mod comparing;
 mod copying;
@@ -10,6 +11,7 @@ mod kept;
 mod key;
 mod laws;
 mod list;
+mod marks;
 mod measuring;
 mod names;
 mod numbers;
@@ -18,6 +20,7 @@ mod part;
 mod reaching;
 mod reading;
 mod step;
+mod table;
 #[cfg(test)]
 mod tests;
 mod text;

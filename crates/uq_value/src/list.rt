@@ -8,7 +8,7 @@ ghost use Rattle.uq_value.specs.declared.value.Value.{Value};
 ghost use Rattle.uq_value.specs.Size.{data_size, most_size};
 ghost use Rattle.uq_value.specs.Depth.{data_depth, most_depth};
 ghost use Rattle.uq_value.specs.IsValue.{IsValue, ItemsAreSound};
-ghost use Rattle.uq_value.specs.Plain.{items as spec_items, plain, depth as spec_depth};
+ghost use Rattle.uq_value.specs.Plain.{items as spec_items, plain, size as spec_size, depth as spec_depth};
 ghost use Rattle.uq_value.specs.Truth.{is_empty as spec_is_empty};
 ghost use Rattle.uq_value.specs.Same.{data_same};
 
@@ -150,26 +150,28 @@ impl List {
         ensures refused { IfErr result (Refuses (limited (Value.List (self.old ++ plain v ∷ [])))) }
         ensures unchanged { OnErr result (self.new ≡ self.old) }
     {
-        if depth(&v) >= MOST_DEPTH {
+        let depth = depth(&v);
+        if depth >= MOST_DEPTH {
             return Err(ValueFault::TooDeep);
         }
-        if self.size_beside_next() + size(&v) > MOST_SIZE {
+        let size = self.size_beside_next() + size(&v);
+        if size > MOST_SIZE {
             return Err(ValueFault::TooLarge);
         }
-        Ok(self.push_within(v)?)
+        Ok(self.push_within(v, size, depth)?)
     }
 
-    /// Appends a value with which the list keeps the limits.
-    fn push_within(&mut self, v: Value) -> Result<(), NoMemory>
-        requires { PushFits v self.old }
+    /// Appends a value of this depth, with which the list has this size and keeps the limits.
+    fn push_within(&mut self, v: Value, size: u64, depth: u32) -> Result<(), NoMemory>
+        requires fits { PushFits v self.old }
+        requires size { size ≡ size_beside_next self.old + spec_size v }
+        requires depth { depth ≡ spec_depth v }
         ensures ok { OnOk result (self.new ≡ self.old ++ plain v ∷ []) }
         ensures unchanged { OnErr result (self.new ≡ self.old) }
     {
         is_value(&v);
-        let size_after = self.size_beside_next() + size(&v);
-        let depth = depth(&v);
         push_item(&mut self.items, v)?;
-        self.kept.add(size_after, depth);
+        self.kept.add(size, depth);
         Ok(())
     }
 
@@ -260,15 +262,11 @@ impl List {
         ensures refused { IfErr result (Refuses (put_at room (nth (length self.old)) rest.now new (Value.List self.old))) }
         ensures unchanged { OnErr result (self.new ≡ self.old) }
     {
+        let beside = self.size_beside_next();
         let mut last = Value::Null;
-        write(
-            alloc,
-            &mut last,
-            rest,
-            new,
-            room.saturating_sub(self.size_beside_next()),
-        )?;
-        Ok(self.push_within(last)?)
+        write(alloc, &mut last, rest, new, room.saturating_sub(beside))?;
+        let (size, depth) = (beside + size(&last), depth(&last));
+        Ok(self.push_within(last, size, depth)?)
     }
 
     /// A list is a value: a caller's proof learns it from this call, which does nothing.

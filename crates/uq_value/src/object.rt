@@ -6,7 +6,7 @@ ghost use Rattle.uq_value.specs.Internal.Writing.{put_at, name_at, object_beside
 ghost use Rattle.uq_value.specs.declared.value.Value.{Value};
 ghost use Rattle.uq_value.specs.Internal.Names.{name_of, names, member_depth};
 ghost use Rattle.uq_value.specs.Internal.Kept.{plain_member};
-ghost use Rattle.uq_value.specs.Internal.Beside.{CountsAre, NamesAre, KeepsCounts, LacksAt};
+ghost use Rattle.uq_value.specs.Internal.Beside.{size_of, depth_of, CountsAre, NamesAre, KeepsCounts, LacksAt};
 ghost use Rattle.uq_value.specs.Data.{object, members_of, IsDistinct};
 ghost use Rattle.uq_value.specs.Size.{data_size, text_size, most_size};
 ghost use Rattle.uq_value.specs.Depth.{data_depth, most_depth};
@@ -307,13 +307,13 @@ pub(crate) fn add(
 ) -> Result<(), NoMemory>
     requires index { NamesAre kept.old (names members.old.items) }
     requires distinct { IsDistinct (names members.old.items) }
-    requires lacks { LacksAt kept.old (names members.old.items) name.items spot.block spot.entry }
+    requires lacks { LacksAt kept.old (names members.old.items) name.items spot }
     ensures ok { OnOk result (map plain_member members.new.items ≡ map plain_member members.old.items ++ (name.items, plain value) ∷ []) }
     ensures unchanged { OnErr result (members.new.items ≡ members.old.items) }
     ensures depths { OnOk result (map member_depth members.new.items ≡ map member_depth members.old.items ++ spec_depth value ∷ []) }
     ensures index { NamesAre kept.new (names members.new.items) }
-    ensures size { kept.new.size ≡ kept.old.size }
-    ensures depth { kept.new.depth ≡ kept.old.depth }
+    ensures size { size_of kept.new ≡ size_of kept.old }
+    ensures depth { depth_of kept.new ≡ depth_of kept.old }
     ensures counts { KeepsCounts kept.old kept.new }
 {
     // the member then has its place, whatever becomes of the index

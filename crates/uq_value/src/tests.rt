@@ -1,3 +1,4 @@
+use crate::marks::{digest, mark};
 use crate::*;
 use std::alloc::Global;
 use std::cmp::Ordering;
@@ -469,6 +470,28 @@ fn a_length_takes_a_byte_up_to_127_and_two_from_128_on(rt: HostRuntime) {
     }
 }
 
+#[test]
+fn a_text_grows_by_other_bytes_up_to_the_limit(rt: HostRuntime) {
+    let alloc = rt.alloc();
+    let mut grown = Text::new(alloc, b"ab").expect(&rt, "a text");
+    assert_eq!(rt; grown.append(b"cd"), Ok(()));
+    assert_eq!(rt; grown.append(b""), Ok(()));
+    assert_eq!(rt; grown.bytes(), b"abcd".as_slice());
+    let mut zeros = Vec::new(alloc);
+    zeros.resize(16_777_144, 0u8).expect(&rt, "room");
+    assert_eq!(rt; grown.append(zeros.as_slice()), Err(ValueFault::TooLarge));
+    assert_eq!(rt; grown.bytes(), b"abcd".as_slice());
+    assert_eq!(rt; grown.append(&zeros[1..]), Ok(()));
+    assert_eq!(rt; grown.bytes().len(), 16_777_147);
+    assert_eq!(rt; grown.append(b"e"), Err(ValueFault::TooLarge));
+    assert_eq!(rt; size(&Value::Text(grown)), MOST_SIZE);
+}
+
+#[test]
+fn a_value_takes_six_words(rt: HostRuntime) {
+    assert_eq!(rt; std::mem::size_of::<Value>(), 48);
+}
+
 /// The name of the nth of 1,009 members, in no order.
 fn mixed_name(rt: &impl Abort, alloc: Global, n: u32) -> Vec<u8> {
     let mut decimal = itoa::Buffer::new();
@@ -501,6 +524,46 @@ fn each_of_many_members_is_found_in_place_and_in_a_copy(rt: HostRuntime) {
         assert!(rt; same(found, &Value::Int(-1)));
     }
     assert!(rt; get_member(&copied, b"1009").is_none());
+}
+
+/// Names whose marks all lead to the first row of an index, if it has 128 rows or fewer.
+fn crowded_names(rt: &impl Abort, alloc: Global, count: usize) -> Vec<Vec<u8>> {
+    let mut names = Vec::new(alloc);
+    for n in 0..1_000_000u32 {
+        if names.len() == count {
+            break;
+        }
+        let mut decimal = itoa::Buffer::new();
+        let name = decimal.format(n).as_bytes();
+        if mark(digest(name)) % 128 == 0 {
+            let name = Vec::from_slice(alloc, name).expect(rt, "a name");
+            names.push(name).expect(rt, "room");
+        }
+    }
+    names
+}
+
+#[test]
+fn members_that_are_too_many_for_their_row_are_found(rt: HostRuntime) {
+    let alloc = rt.alloc();
+    let mut written = Value::Null;
+    let names = crowded_names(&rt, alloc, 100);
+    for name in &names {
+        put_member(alloc, &mut written, name.as_slice(), Value::Null).expect(&rt, "a member");
+    }
+    for name in &names {
+        put_member(alloc, &mut written, name.as_slice(), Value::Int(7)).expect(&rt, "a member");
+    }
+    let Value::Object(members) = &written else {
+        return;
+    };
+    assert_eq!(rt; (names.len(), members.len()), (100, 100));
+    let copied = copy(alloc, &written).expect(&rt, "a copy");
+    for name in &names {
+        let found = get_member(&copied, name.as_slice()).expect(&rt, "a member");
+        assert!(rt; same(found, &Value::Int(7)));
+    }
+    assert!(rt; get_member(&copied, b"none").is_none());
 }
 
 #[test]

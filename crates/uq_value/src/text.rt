@@ -1,10 +1,10 @@
 //! Texts: bytes within the limit of a value.
-ghost use Rattle.std.specs.Prelude.{◌≡◌, ◌≤◌, IfOk, IfErr, OnOk};
+ghost use Rattle.std.specs.Prelude.{◌≡◌, ◌≤◌, ◌++◌, IfOk, IfErr, OnOk, OnErr};
 ghost use Rattle.uq_value.specs.Size.{text_size, most_size};
 ghost use Rattle.uq_value.specs.Faults.{TextFault};
 
 use crate::error::{NoMemory, ValueFault};
-use crate::measuring::{MOST_SIZE, name_size};
+use crate::measuring::{MOST_SIZE, leb_size, name_size};
 use std::alloc::Global;
 use std::marker::Model;
 
@@ -65,6 +65,31 @@ impl Text {
         ensures { result ≡ bytes.items }
     {
         Text { bytes }
+    }
+
+    /// Appends these bytes, in place where there is room. It is `TooLarge` exactly where the text would be; after a
+    /// refusal the text is as before.
+    pub fn append(&mut self, more: &[u8]) -> Result<(), ValueFault>
+        ensures ok { OnOk result (self.new ≡ self.old ++ more.now) }
+        ensures fits { OnOk result (text_size (self.old ++ more.now) ≤ most_size) }
+        ensures fault { IfErr result (TextFault (self.old ++ more.now)) }
+        ensures unchanged { OnErr result (self.new ≡ self.old) }
+    {
+        let length = self.bytes.len() + more.len();
+        if 1 + leb_size(length) + length as u64 > MOST_SIZE {
+            return Err(ValueFault::TooLarge);
+        }
+        Ok(self.append_within(more)?)
+    }
+
+    /// Appends bytes with which the text is known to fit.
+    fn append_within(&mut self, more: &[u8]) -> Result<(), NoMemory>
+        requires { text_size (self.old ++ more.now) ≤ most_size }
+        ensures ok { OnOk result (self.new ≡ self.old ++ more.now) }
+        ensures unchanged { OnErr result (self.new ≡ self.old) }
+    {
+        self.bytes.extend_from_slice(more)?;
+        Ok(())
     }
 
     /// The bytes.

@@ -3,13 +3,12 @@ use Rattle.std.proofs.lemmas.Result.{err_from_is_err_and}
 use Rattle.std.specs.List.{All}
 use Rattle.uq_value.specs.Depth.{most_depth}
 use Rattle.uq_value.specs.Plain.{plain, depth}
-use Rattle.uq_value.specs.Internal.Names.{names, member_depth}
+use Rattle.uq_value.specs.Internal.Names.{names, member_depth, IsFound}
 use Rattle.uq_value.specs.Put.{named}
 use Rattle.uq_value.specs.Faults.{Refuses}
 use Rattle.uq_value.specs.Internal.Kept.{plain_member}
 use Rattle.uq_value.specs.Internal.Writing.{put_at}
-use Rattle.uq_value.specs.Internal.Index.{IsFound}
-use Rattle.uq_value.specs.Internal.Beside.{CountsAre, Mends}
+use Rattle.uq_value.specs.Internal.Beside.{size_of, CountsAre, Mends}
 use Rattle.uq_value.specs.declared.value.Value.{Value}
 use Rattle.uq_value.proofs.ListWrite.{no-less, refused, done, is_list, part-kept, part-now, size-now, shallow-now, few-now, append-refused, appended, append-fits}
 use Rattle.uq_value.proofs.ObjectWrite.{add-refused, added, add-small, add-shallow}
@@ -25,19 +24,19 @@ pub list::List::append-returns-in_err-write-clause-refused : goal.list::List::ap
 list::List::append-returns-in_err-write-clause-refused t c =
     let p = err_from_is_err_and c.from_residual.result c.from_residual.ensures.1 in
     rw (p.1, p.2) (append-refused c.args.self.now c.args.room c.saturating_sub.result
-    (c.saturating_sub.ensures ∙ ap (λ n. c.args.room - n) c.size_beside_next.ensures.size)
+    (c.saturating_sub.ensures ∙ ap (λ n. c.args.room - n) c.size_beside_next-beside.ensures.size)
     c.args.rest.now c.args.new _ (c.in_err-write.ensures.refused))
 
-pub list::List::append-push_within-requires : goal.list::List::append-push_within-requires
-list::List::append-push_within-requires t c =
+pub list::List::append-push_within-requires-clause-fits : goal.list::List::append-push_within-requires-clause-fits
+list::List::append-push_within-requires-clause-fits t c =
     append-fits c.args.self.now c.args.room c.saturating_sub.result
-    (c.saturating_sub.ensures ∙ ap (λ n. c.args.room - n) c.size_beside_next.ensures.size)
+    (c.saturating_sub.ensures ∙ ap (λ n. c.args.room - n) c.size_beside_next-beside.ensures.size)
     c.args.rest.now c.args.new c.write.new.v (c.in_ok-write.ensures.ok) c.requires.small c.requires.shallow
 
 pub list::List::append-returns-clause-ok : goal.list::List::append-returns-clause-ok
 list::List::append-returns-clause-ok t c =
     appended c.args.self.now c.args.room c.saturating_sub.result
-    (c.saturating_sub.ensures ∙ ap (λ n. c.args.room - n) c.size_beside_next.ensures.size)
+    (c.saturating_sub.ensures ∙ ap (λ n. c.args.room - n) c.size_beside_next-beside.ensures.size)
     c.args.rest.now c.args.new c.write.new.v (c.in_ok-write.ensures.ok) _ (c.in_ok-push_within.ensures.ok)
 
 pub list::List::write_at-overflow_sub-size : goal.list::List::write_at-overflow_sub-size
@@ -47,7 +46,7 @@ pub list::List::write_at-returns-in_err-write-clause-refused : goal.list::List::
 list::List::write_at-returns-in_err-write-clause-refused t c =
     let p = err_from_is_err_and c.from_residual.result c.from_residual.ensures.1 in
     rw (p.1, p.2) (refused _ c.self.invariant _ c.self.view_is c.args.at _ c.requires.within c.index_mut-child.ensures.value c.args.room c.saturating_sub.result
-    (c.saturating_sub.ensures ∙ ap (λ n. c.args.room - (n - c.size-size_before.result)) c.size.ensures ∙ ap (λ n. c.args.room - (c.self.inside.kept.size - n)) c.size-size_before.ensures.size)
+    (c.saturating_sub.ensures ∙ ap (λ n. c.args.room - (n - c.size-size_before.result)) c.size.ensures ∙ ap (λ n. c.args.room - (size_of c.self.inside.kept - n)) c.size-size_before.ensures.size)
     c.args.rest.now c.args.new _ (c.in_err-write.ensures.refused))
 
 pub list::List::write_at-overflow_sub-size-2 : goal.list::List::write_at-overflow_sub-size-2
@@ -56,32 +55,32 @@ list::List::write_at-overflow_sub-size-2 t c = rw (c.size-size_before.ensures.si
 pub list::List::write_at-mend-requires-clause-few : goal.list::List::write_at-mend-requires-clause-few
 list::List::write_at-mend-requires-clause-few t c =
     subst (λ vs. length vs + 1 < 2 ^ 32) (sym c.as_slice.ensures.value)
-    (few-now _ c.self.invariant _ c.self.view_is c.args.at _ c.requires.within c.index_mut-child.ensures.value c.args.room c.saturating_sub.result (c.saturating_sub.ensures ∙ ap (λ n. c.args.room - (n - c.size-size_before.result)) c.size.ensures ∙ ap (λ n. c.args.room - (c.self.inside.kept.size - n)) c.size-size_before.ensures.size) c.args.rest.now c.args.new c.write.new.v c.in_ok-write.ensures.ok c.requires.small c.requires.shallow)
+    (few-now _ c.self.invariant _ c.self.view_is c.args.at _ c.requires.within c.index_mut-child.ensures.value c.args.room c.saturating_sub.result (c.saturating_sub.ensures ∙ ap (λ n. c.args.room - (n - c.size-size_before.result)) c.size.ensures ∙ ap (λ n. c.args.room - (size_of c.self.inside.kept - n)) c.size-size_before.ensures.size) c.args.rest.now c.args.new c.write.new.v c.in_ok-write.ensures.ok c.requires.small c.requires.shallow)
 
 pub list::List::write_at-mend-requires-clause-shallow : goal.list::List::write_at-mend-requires-clause-shallow
 list::List::write_at-mend-requires-clause-shallow t c =
     subst (λ vs. All (λ v. depth v < most_depth) vs) (sym c.as_slice.ensures.value)
-    (shallow-now _ c.self.invariant _ c.self.view_is c.args.at _ c.requires.within c.index_mut-child.ensures.value c.args.room c.saturating_sub.result (c.saturating_sub.ensures ∙ ap (λ n. c.args.room - (n - c.size-size_before.result)) c.size.ensures ∙ ap (λ n. c.args.room - (c.self.inside.kept.size - n)) c.size-size_before.ensures.size) c.args.rest.now c.args.new c.write.new.v c.in_ok-write.ensures.ok c.requires.small c.requires.shallow)
+    (shallow-now _ c.self.invariant _ c.self.view_is c.args.at _ c.requires.within c.index_mut-child.ensures.value c.args.room c.saturating_sub.result (c.saturating_sub.ensures ∙ ap (λ n. c.args.room - (n - c.size-size_before.result)) c.size.ensures ∙ ap (λ n. c.args.room - (size_of c.self.inside.kept - n)) c.size-size_before.ensures.size) c.args.rest.now c.args.new c.write.new.v c.in_ok-write.ensures.ok c.requires.small c.requires.shallow)
 
 pub list::List::write_at-mend-requires-clause-small : goal.list::List::write_at-mend-requires-clause-small
 list::List::write_at-mend-requires-clause-small t c =
-    omega (arith, c.size-2.ensures, c.size-size_before.ensures.size, c.size-size_after.ensures.size, size-now _ c.self.invariant _ c.self.view_is c.args.at _ c.requires.within c.index_mut-child.ensures.value c.args.room c.saturating_sub.result (c.saturating_sub.ensures ∙ ap (λ n. c.args.room - (n - c.size-size_before.result)) c.size.ensures ∙ ap (λ n. c.args.room - (c.self.inside.kept.size - n)) c.size-size_before.ensures.size) c.args.rest.now c.args.new c.write.new.v c.in_ok-write.ensures.ok c.requires.small c.requires.shallow)
+    omega (arith, c.size-2.ensures, c.size-size_before.ensures.size, c.size-size_after.ensures.size, size-now _ c.self.invariant _ c.self.view_is c.args.at _ c.requires.within c.index_mut-child.ensures.value c.args.room c.saturating_sub.result (c.saturating_sub.ensures ∙ ap (λ n. c.args.room - (n - c.size-size_before.result)) c.size.ensures ∙ ap (λ n. c.args.room - (size_of c.self.inside.kept - n)) c.size-size_before.ensures.size) c.args.rest.now c.args.new c.write.new.v c.in_ok-write.ensures.ok c.requires.small c.requires.shallow)
 
 pub list::List::write_at-mend-requires-clause-before : goal.list::List::write_at-mend-requires-clause-before
 list::List::write_at-mend-requires-clause-before t c =
-    omega (arith, c.depth-depth_before.ensures.depth, c.self.invariant.depth_within, part-kept _ c.self.invariant _ c.self.view_is c.args.at _ c.requires.within c.index_mut-child.ensures.value c.args.room c.saturating_sub.result (c.saturating_sub.ensures ∙ ap (λ n. c.args.room - (n - c.size-size_before.result)) c.size.ensures ∙ ap (λ n. c.args.room - (c.self.inside.kept.size - n)) c.size-size_before.ensures.size) c.args.rest.now c.args.new c.write.new.v c.in_ok-write.ensures.ok c.requires.small c.requires.shallow)
+    omega (arith, c.depth-depth_before.ensures.depth, c.self.invariant.depth_within, part-kept _ c.self.invariant _ c.self.view_is c.args.at _ c.requires.within c.index_mut-child.ensures.value c.args.room c.saturating_sub.result (c.saturating_sub.ensures ∙ ap (λ n. c.args.room - (n - c.size-size_before.result)) c.size.ensures ∙ ap (λ n. c.args.room - (size_of c.self.inside.kept - n)) c.size-size_before.ensures.size) c.args.rest.now c.args.new c.write.new.v c.in_ok-write.ensures.ok c.requires.small c.requires.shallow)
 
 pub list::List::write_at-mend-requires-clause-after : goal.list::List::write_at-mend-requires-clause-after
 list::List::write_at-mend-requires-clause-after t c =
-    omega (arith, c.depth-depth_after.ensures.depth, part-now _ c.self.invariant _ c.self.view_is c.args.at _ c.requires.within c.index_mut-child.ensures.value c.args.room c.saturating_sub.result (c.saturating_sub.ensures ∙ ap (λ n. c.args.room - (n - c.size-size_before.result)) c.size.ensures ∙ ap (λ n. c.args.room - (c.self.inside.kept.size - n)) c.size-size_before.ensures.size) c.args.rest.now c.args.new c.write.new.v c.in_ok-write.ensures.ok c.requires.small c.requires.shallow)
+    omega (arith, c.depth-depth_after.ensures.depth, part-now _ c.self.invariant _ c.self.view_is c.args.at _ c.requires.within c.index_mut-child.ensures.value c.args.room c.saturating_sub.result (c.saturating_sub.ensures ∙ ap (λ n. c.args.room - (n - c.size-size_before.result)) c.size.ensures ∙ ap (λ n. c.args.room - (size_of c.self.inside.kept - n)) c.size-size_before.ensures.size) c.args.rest.now c.args.new c.write.new.v c.in_ok-write.ensures.ok c.requires.small c.requires.shallow)
 
 pub list::List::write_at-mend-requires-clause-kept : goal.list::List::write_at-mend-requires-clause-kept
 list::List::write_at-mend-requires-clause-kept t c =
-    omega (arith, c.depth-depth_before.ensures.depth, part-kept _ c.self.invariant _ c.self.view_is c.args.at _ c.requires.within c.index_mut-child.ensures.value c.args.room c.saturating_sub.result (c.saturating_sub.ensures ∙ ap (λ n. c.args.room - (n - c.size-size_before.result)) c.size.ensures ∙ ap (λ n. c.args.room - (c.self.inside.kept.size - n)) c.size-size_before.ensures.size) c.args.rest.now c.args.new c.write.new.v c.in_ok-write.ensures.ok c.requires.small c.requires.shallow)
+    omega (arith, c.depth-depth_before.ensures.depth, part-kept _ c.self.invariant _ c.self.view_is c.args.at _ c.requires.within c.index_mut-child.ensures.value c.args.room c.saturating_sub.result (c.saturating_sub.ensures ∙ ap (λ n. c.args.room - (n - c.size-size_before.result)) c.size.ensures ∙ ap (λ n. c.args.room - (size_of c.self.inside.kept - n)) c.size-size_before.ensures.size) c.args.rest.now c.args.new c.write.new.v c.in_ok-write.ensures.ok c.requires.small c.requires.shallow)
 
 pub list::List::write_at-invariant_of-self-2 : goal.list::List::write_at-invariant_of-self-2
 list::List::write_at-invariant_of-self-2 t c =
-    is_list _ c.self.invariant _ c.self.view_is c.args.at _ c.requires.within c.index_mut-child.ensures.value c.args.room c.saturating_sub.result (c.saturating_sub.ensures ∙ ap (λ n. c.args.room - (n - c.size-size_before.result)) c.size.ensures ∙ ap (λ n. c.args.room - (c.self.inside.kept.size - n)) c.size-size_before.ensures.size) c.args.rest.now c.args.new c.write.new.v c.in_ok-write.ensures.ok c.requires.small c.requires.shallow
+    is_list _ c.self.invariant _ c.self.view_is c.args.at _ c.requires.within c.index_mut-child.ensures.value c.args.room c.saturating_sub.result (c.saturating_sub.ensures ∙ ap (λ n. c.args.room - (n - c.size-size_before.result)) c.size.ensures ∙ ap (λ n. c.args.room - (size_of c.self.inside.kept - n)) c.size-size_before.ensures.size) c.args.rest.now c.args.new c.write.new.v c.in_ok-write.ensures.ok c.requires.small c.requires.shallow
     c.is_value.ensures.sound _ refl
     (omega (arith, c.mend.ensures.size, c.size-2.ensures, c.size-size_before.ensures.size, c.size-size_after.ensures.size))
     (subst (λ vs. Mends c.self.inside.kept c.mend.new.self (depth c.index_mut-child.result.now) (depth c.write.new.v) (map depth vs)) c.as_slice.ensures.value
@@ -90,7 +89,7 @@ list::List::write_at-invariant_of-self-2 t c =
 
 pub list::List::write_at-returns-clause-ok : goal.list::List::write_at-returns-clause-ok
 list::List::write_at-returns-clause-ok t c =
-    done _ c.self.invariant _ c.self.view_is c.args.at _ c.requires.within c.index_mut-child.ensures.value c.args.room c.saturating_sub.result (c.saturating_sub.ensures ∙ ap (λ n. c.args.room - (n - c.size-size_before.result)) c.size.ensures ∙ ap (λ n. c.args.room - (c.self.inside.kept.size - n)) c.size-size_before.ensures.size) c.args.rest.now c.args.new c.write.new.v c.in_ok-write.ensures.ok _ refl
+    done _ c.self.invariant _ c.self.view_is c.args.at _ c.requires.within c.index_mut-child.ensures.value c.args.room c.saturating_sub.result (c.saturating_sub.ensures ∙ ap (λ n. c.args.room - (n - c.size-size_before.result)) c.size.ensures ∙ ap (λ n. c.args.room - (size_of c.self.inside.kept - n)) c.size-size_before.ensures.size) c.args.rest.now c.args.new c.write.new.v c.in_ok-write.ensures.ok _ refl
 
 -- ---- an object
 
@@ -101,7 +100,7 @@ pub object::Object::write_at-returns-in_err-write-clause-refused : goal.object::
 object::Object::write_at-returns-in_err-write-clause-refused t c =
     let p = err_from_is_err_and c.from_residual.result c.from_residual.ensures.1 in
     rw (p.1, p.2) (O.refused _ c.self.invariant _ c.self.view_is c.args.at c.requires.within c.index_mut.result.now c.index_mut.ensures.value c.args.room c.saturating_sub.result
-    (c.saturating_sub.ensures ∙ ap (λ n. c.args.room - (n - c.size-size_before.result)) c.size.ensures ∙ ap (λ n. c.args.room - (c.self.inside.kept.size - n)) c.size-size_before.ensures.size)
+    (c.saturating_sub.ensures ∙ ap (λ n. c.args.room - (n - c.size-size_before.result)) c.size.ensures ∙ ap (λ n. c.args.room - (size_of c.self.inside.kept - n)) c.size-size_before.ensures.size)
     c.args.rest.now c.args.new _ (c.in_err-write.ensures.refused))
 
 pub object::Object::write_at-overflow_sub-size-2 : goal.object::Object::write_at-overflow_sub-size-2
@@ -110,32 +109,32 @@ object::Object::write_at-overflow_sub-size-2 t c = rw (c.size-size_before.ensure
 pub object::Object::write_at-mend-requires-clause-few : goal.object::Object::write_at-mend-requires-clause-few
 object::Object::write_at-mend-requires-clause-few t c =
     subst (λ vs. length vs + 1 < 2 ^ 32) (sym c.as_slice.ensures.value)
-    (O.few-now _ c.self.invariant _ c.self.view_is c.args.at c.requires.within c.index_mut.result.now c.index_mut.ensures.value c.args.room c.saturating_sub.result (c.saturating_sub.ensures ∙ ap (λ n. c.args.room - (n - c.size-size_before.result)) c.size.ensures ∙ ap (λ n. c.args.room - (c.self.inside.kept.size - n)) c.size-size_before.ensures.size) c.args.rest.now c.args.new c.write.new.v c.in_ok-write.ensures.ok c.requires.small c.requires.shallow)
+    (O.few-now _ c.self.invariant _ c.self.view_is c.args.at c.requires.within c.index_mut.result.now c.index_mut.ensures.value c.args.room c.saturating_sub.result (c.saturating_sub.ensures ∙ ap (λ n. c.args.room - (n - c.size-size_before.result)) c.size.ensures ∙ ap (λ n. c.args.room - (size_of c.self.inside.kept - n)) c.size-size_before.ensures.size) c.args.rest.now c.args.new c.write.new.v c.in_ok-write.ensures.ok c.requires.small c.requires.shallow)
 
 pub object::Object::write_at-mend-requires-clause-shallow : goal.object::Object::write_at-mend-requires-clause-shallow
 object::Object::write_at-mend-requires-clause-shallow t c =
     subst (λ vs. All (λ v. member_depth v < most_depth) vs) (sym c.as_slice.ensures.value)
-    (O.shallow-now _ c.self.invariant _ c.self.view_is c.args.at c.requires.within c.index_mut.result.now c.index_mut.ensures.value c.args.room c.saturating_sub.result (c.saturating_sub.ensures ∙ ap (λ n. c.args.room - (n - c.size-size_before.result)) c.size.ensures ∙ ap (λ n. c.args.room - (c.self.inside.kept.size - n)) c.size-size_before.ensures.size) c.args.rest.now c.args.new c.write.new.v c.in_ok-write.ensures.ok c.requires.small c.requires.shallow)
+    (O.shallow-now _ c.self.invariant _ c.self.view_is c.args.at c.requires.within c.index_mut.result.now c.index_mut.ensures.value c.args.room c.saturating_sub.result (c.saturating_sub.ensures ∙ ap (λ n. c.args.room - (n - c.size-size_before.result)) c.size.ensures ∙ ap (λ n. c.args.room - (size_of c.self.inside.kept - n)) c.size-size_before.ensures.size) c.args.rest.now c.args.new c.write.new.v c.in_ok-write.ensures.ok c.requires.small c.requires.shallow)
 
 pub object::Object::write_at-mend-requires-clause-small : goal.object::Object::write_at-mend-requires-clause-small
 object::Object::write_at-mend-requires-clause-small t c =
-    omega (arith, c.size-2.ensures, c.size-size_before.ensures.size, c.size-size_after.ensures.size, O.size-now _ c.self.invariant _ c.self.view_is c.args.at c.requires.within c.index_mut.result.now c.index_mut.ensures.value c.args.room c.saturating_sub.result (c.saturating_sub.ensures ∙ ap (λ n. c.args.room - (n - c.size-size_before.result)) c.size.ensures ∙ ap (λ n. c.args.room - (c.self.inside.kept.size - n)) c.size-size_before.ensures.size) c.args.rest.now c.args.new c.write.new.v c.in_ok-write.ensures.ok c.requires.small c.requires.shallow)
+    omega (arith, c.size-2.ensures, c.size-size_before.ensures.size, c.size-size_after.ensures.size, O.size-now _ c.self.invariant _ c.self.view_is c.args.at c.requires.within c.index_mut.result.now c.index_mut.ensures.value c.args.room c.saturating_sub.result (c.saturating_sub.ensures ∙ ap (λ n. c.args.room - (n - c.size-size_before.result)) c.size.ensures ∙ ap (λ n. c.args.room - (size_of c.self.inside.kept - n)) c.size-size_before.ensures.size) c.args.rest.now c.args.new c.write.new.v c.in_ok-write.ensures.ok c.requires.small c.requires.shallow)
 
 pub object::Object::write_at-mend-requires-clause-before : goal.object::Object::write_at-mend-requires-clause-before
 object::Object::write_at-mend-requires-clause-before t c =
-    omega (arith, c.depth-depth_before.ensures.depth, c.self.invariant.depth_within, O.part-kept _ c.self.invariant _ c.self.view_is c.args.at c.requires.within c.index_mut.result.now c.index_mut.ensures.value c.args.room c.saturating_sub.result (c.saturating_sub.ensures ∙ ap (λ n. c.args.room - (n - c.size-size_before.result)) c.size.ensures ∙ ap (λ n. c.args.room - (c.self.inside.kept.size - n)) c.size-size_before.ensures.size) c.args.rest.now c.args.new c.write.new.v c.in_ok-write.ensures.ok c.requires.small c.requires.shallow)
+    omega (arith, c.depth-depth_before.ensures.depth, c.self.invariant.depth_within, O.part-kept _ c.self.invariant _ c.self.view_is c.args.at c.requires.within c.index_mut.result.now c.index_mut.ensures.value c.args.room c.saturating_sub.result (c.saturating_sub.ensures ∙ ap (λ n. c.args.room - (n - c.size-size_before.result)) c.size.ensures ∙ ap (λ n. c.args.room - (size_of c.self.inside.kept - n)) c.size-size_before.ensures.size) c.args.rest.now c.args.new c.write.new.v c.in_ok-write.ensures.ok c.requires.small c.requires.shallow)
 
 pub object::Object::write_at-mend-requires-clause-after : goal.object::Object::write_at-mend-requires-clause-after
 object::Object::write_at-mend-requires-clause-after t c =
-    omega (arith, c.depth-depth_after.ensures.depth, O.part-now _ c.self.invariant _ c.self.view_is c.args.at c.requires.within c.index_mut.result.now c.index_mut.ensures.value c.args.room c.saturating_sub.result (c.saturating_sub.ensures ∙ ap (λ n. c.args.room - (n - c.size-size_before.result)) c.size.ensures ∙ ap (λ n. c.args.room - (c.self.inside.kept.size - n)) c.size-size_before.ensures.size) c.args.rest.now c.args.new c.write.new.v c.in_ok-write.ensures.ok c.requires.small c.requires.shallow)
+    omega (arith, c.depth-depth_after.ensures.depth, O.part-now _ c.self.invariant _ c.self.view_is c.args.at c.requires.within c.index_mut.result.now c.index_mut.ensures.value c.args.room c.saturating_sub.result (c.saturating_sub.ensures ∙ ap (λ n. c.args.room - (n - c.size-size_before.result)) c.size.ensures ∙ ap (λ n. c.args.room - (size_of c.self.inside.kept - n)) c.size-size_before.ensures.size) c.args.rest.now c.args.new c.write.new.v c.in_ok-write.ensures.ok c.requires.small c.requires.shallow)
 
 pub object::Object::write_at-mend-requires-clause-kept : goal.object::Object::write_at-mend-requires-clause-kept
 object::Object::write_at-mend-requires-clause-kept t c =
-    omega (arith, c.depth-depth_before.ensures.depth, O.part-kept _ c.self.invariant _ c.self.view_is c.args.at c.requires.within c.index_mut.result.now c.index_mut.ensures.value c.args.room c.saturating_sub.result (c.saturating_sub.ensures ∙ ap (λ n. c.args.room - (n - c.size-size_before.result)) c.size.ensures ∙ ap (λ n. c.args.room - (c.self.inside.kept.size - n)) c.size-size_before.ensures.size) c.args.rest.now c.args.new c.write.new.v c.in_ok-write.ensures.ok c.requires.small c.requires.shallow)
+    omega (arith, c.depth-depth_before.ensures.depth, O.part-kept _ c.self.invariant _ c.self.view_is c.args.at c.requires.within c.index_mut.result.now c.index_mut.ensures.value c.args.room c.saturating_sub.result (c.saturating_sub.ensures ∙ ap (λ n. c.args.room - (n - c.size-size_before.result)) c.size.ensures ∙ ap (λ n. c.args.room - (size_of c.self.inside.kept - n)) c.size-size_before.ensures.size) c.args.rest.now c.args.new c.write.new.v c.in_ok-write.ensures.ok c.requires.small c.requires.shallow)
 
 pub object::Object::write_at-invariant_of-self-2 : goal.object::Object::write_at-invariant_of-self-2
 object::Object::write_at-invariant_of-self-2 t c =
-    O.is_object _ c.self.invariant _ c.self.view_is c.args.at c.requires.within c.index_mut.result.now c.index_mut.ensures.value c.args.room c.saturating_sub.result (c.saturating_sub.ensures ∙ ap (λ n. c.args.room - (n - c.size-size_before.result)) c.size.ensures ∙ ap (λ n. c.args.room - (c.self.inside.kept.size - n)) c.size-size_before.ensures.size) c.args.rest.now c.args.new c.write.new.v c.in_ok-write.ensures.ok c.requires.small c.requires.shallow
+    O.is_object _ c.self.invariant _ c.self.view_is c.args.at c.requires.within c.index_mut.result.now c.index_mut.ensures.value c.args.room c.saturating_sub.result (c.saturating_sub.ensures ∙ ap (λ n. c.args.room - (n - c.size-size_before.result)) c.size.ensures ∙ ap (λ n. c.args.room - (size_of c.self.inside.kept - n)) c.size-size_before.ensures.size) c.args.rest.now c.args.new c.write.new.v c.in_ok-write.ensures.ok c.requires.small c.requires.shallow
     c.is_value.ensures.sound _ refl
     (omega (arith, c.mend.ensures.size, c.size-2.ensures, c.size-size_before.ensures.size, c.size-size_after.ensures.size))
     (subst (λ vs. Mends c.self.inside.kept c.mend.new.self (depth c.index_mut.result.now.value) (depth c.write.new.v) (map member_depth vs)) c.as_slice.ensures.value
@@ -145,7 +144,7 @@ object::Object::write_at-invariant_of-self-2 t c =
 
 pub object::Object::write_at-returns-clause-ok : goal.object::Object::write_at-returns-clause-ok
 object::Object::write_at-returns-clause-ok t c =
-    O.done _ c.self.invariant _ c.self.view_is c.args.at c.requires.within c.index_mut.result.now c.index_mut.ensures.value c.args.room c.saturating_sub.result (c.saturating_sub.ensures ∙ ap (λ n. c.args.room - (n - c.size-size_before.result)) c.size.ensures ∙ ap (λ n. c.args.room - (c.self.inside.kept.size - n)) c.size-size_before.ensures.size) c.args.rest.now c.args.new c.write.new.v c.in_ok-write.ensures.ok _ refl
+    O.done _ c.self.invariant _ c.self.view_is c.args.at c.requires.within c.index_mut.result.now c.index_mut.ensures.value c.args.room c.saturating_sub.result (c.saturating_sub.ensures ∙ ap (λ n. c.args.room - (n - c.size-size_before.result)) c.size.ensures ∙ ap (λ n. c.args.room - (size_of c.self.inside.kept - n)) c.size-size_before.ensures.size) c.args.rest.now c.args.new c.write.new.v c.in_ok-write.ensures.ok _ refl
 
 pub object::Object::write_member-returns-in_err-write-in-Err-clause-refused : goal.object::Object::write_member-returns-in_err-write-in-Err-clause-refused
 object::Object::write_member-returns-in_err-write-in-Err-clause-refused t c =

@@ -1,128 +1,51 @@
--- The places of an object's members in the order of their names' keys, cut into blocks.
-use Rattle.std.specs.Prelude.{◌≡◌, ◌<◌, ◌≤◌, ◌-◌, ℕ, zero, suc, Bool, true, false, MatchBool, List, [], ◌∷◌, ◌++◌, length, take, drop, slice_index_or, Vec, ◌⊎◌}
-use Rattle.std.specs.List.{flat_map, AllByRecursion}
-use Rattle.std.specs.declared.alloc.Global.{Global}
-use Rattle.uq_value.specs.Data.{Bytes, is_among}
+-- The places of all members: in the rows of a table, and where a row is full, in blocks.
+use Rattle.std.specs.Prelude.{◌≡◌, ◌<◌, ◌≤◌, ◌⊎◌, ℕ, List, [], length, slice_index_or}
+use Rattle.uq_value.specs.Data.{Bytes}
 use Rattle.uq_value.specs.Places.{place_of}
-use Rattle.uq_value.specs.Internal.NameOrder.{key, is_before}
-use Rattle.uq_value.specs.declared.names.Entry.{Entry}
+use Rattle.uq_value.specs.Internal.NameOrder.{key}
+use Rattle.uq_value.specs.Internal.Blocks.{Blocks, entries, HasKey, IsSorted, Belongs}
+use Rattle.uq_value.specs.Internal.Table.{mark_of, HasSlot, IsFree, IsFull, AreWithin}
+use Rattle.uq_value.specs.declared.table.Slot.{Slot}
+use Rattle.uq_value.specs.declared.names.Spot.{Spot}
+use Rattle.uq_value.specs.declared.names.NameIndex.{NameIndex}
 
-abbrev pub Blocks : Type 0
-Blocks = List (Vec Entry Global)
+-- a slot has the place of the member of this name, or the blocks have it, for want of a free slot
+abbrev pub IsHeld : List Bytes → List Slot → Blocks → Bytes → ℕ → Type 0
+IsHeld ns slots bs name at = HasSlot slots (mark_of name) at ⊎ (IsFull slots (mark_of name) × HasKey ns (key name) (entries bs))
 
--- the entries of all blocks
-abbrev pub entries : Blocks → List Entry
-entries bs = flat_map (λ b. b.items) bs
+-- what is kept is right, and each of these names has its place
+pub record IsIndex (ns : List Bytes) (slots : List Slot) (bs : Blocks) : Type 0 where
+  pub long : 8 ≤ length slots
+  pub within : AreWithin (length ns) slots
+  pub sorted : IsSorted ns bs
+  pub complete : (at : ℕ) → at < length ns → IsHeld ns slots bs (slice_index_or ns at []) at
 
--- the key of the name that an entry is for
-abbrev pub label : List Bytes → Entry → List ℕ
-label ns e = e.digest ∷ slice_index_or ns e.at []
-
--- all these entries come before a key, and all come behind it
-abbrev pub AllBefore : List Bytes → List ℕ → List Entry → Type 0
-AllBefore ns k es = AllByRecursion (λ e. is_before (label ns e) k ≡ true) es
-
-abbrev pub AllBehind : List Bytes → List ℕ → List Entry → Type 0
-AllBehind ns k es = AllByRecursion (λ e. is_before k (label ns e) ≡ true) es
-
--- each entry comes before those that stand behind it
-abbrev pub Ascending : List Bytes → List Entry → Type 0
-Ascending ns [] = Unit {0}
-Ascending ns (e ∷ es) = AllBehind ns (label ns e) es × Ascending ns es
-
--- one of the entries is for this key
-abbrev pub HasKey : List Bytes → List ℕ → List Entry → Type 0
-HasKey ns k [] = ⊥
-HasKey ns k (e ∷ es) = (label ns e ≡ k) ⊎ HasKey ns k es
-
-abbrev pub AllWithin : List Bytes → List Entry → Type 0
-AllWithin ns es = AllByRecursion (λ e. e.at < length ns) es
-
--- whether an entry is for a key
-abbrev pub IsFor : Bool → List Bytes → Entry → List ℕ → Type 0
-IsFor is ns e k = MatchBool is (label ns e ≡ k) (label ns e ≡ k → ⊥)
-
--- the last of these entries
-abbrev pub last_of : List Entry → Entry → Entry
-last_of es e = slice_index_or es (length es - 1) e
-
--- no block is empty
-abbrev pub IsFilled : Blocks → Type 0
-IsFilled bs = AllByRecursion (λ b. 0 < length b.items) bs
-
--- the entries are those of these names, in order
-pub record IsIndex (ns : List Bytes) (bs : Blocks) : Type 0 where
-  pub within : AllWithin ns (entries bs)
-  pub ascending : Ascending ns (entries bs)
-  pub complete : (name : Bytes) → is_among name ns ≡ true → HasKey ns (key name) (entries bs)
-  pub filled : IsFilled bs
-
--- the entries in front of a place in a block, and those from it on
-abbrev pub front : Blocks → ℕ → ℕ → List Entry
-front [] block at = []
-front (b ∷ bs) zero at = take at b.items
-front (b ∷ bs) (suc block) at = b.items ++ front bs block at
-
-abbrev pub rest : Blocks → ℕ → ℕ → List Entry
-rest [] block at = []
-rest (b ∷ bs) zero at = drop at b.items ++ entries bs
-rest (b ∷ bs) (suc block) at = rest bs block at
-
--- the entries with one more in that place
-abbrev pub with_entry : Blocks → ℕ → ℕ → Entry → List Entry
-with_entry bs block at e = front bs block at ++ e ∷ rest bs block at
-
--- an entry stands there, where it is not the end
-abbrev pub IsEntry : Blocks → ℕ → ℕ → Type 0
-IsEntry bs block at = (b : Vec Entry Global) → block < length bs → at < length (slice_index_or bs block b).items
-
--- the place is within a block, or it is the end
-pub record IsPlace (bs : Blocks) (block at : ℕ) : Type 0 where
-  pub block_within : block ≤ length bs
-  pub at_within : (b : Vec Entry Global) → block < length bs → at ≤ length (slice_index_or bs block b).items
-
--- where the entry of a name belongs that has none
-pub record Belongs (ns : List Bytes) (name : Bytes) (bs : Blocks) (block at : ℕ) : Type 0 where
-  pub place : IsPlace bs block at
-  pub front_before : AllBefore ns (key name) (front bs block at)
-  pub rest_behind : AllBehind ns (key name) (rest bs block at)
-
--- none of these entries comes before a key
-abbrev pub NoneBefore : List Bytes → List ℕ → List Entry → Type 0
-NoneBefore ns k es = AllByRecursion (λ e. is_before (label ns e) k ≡ false) es
-
--- so many blocks come before a key as a whole, and the next one does not
-pub record SplitsBlocks (ns : List Bytes) (k : List ℕ) (bs : Blocks) (block : ℕ) : Type 0 where
-  pub within : block ≤ length bs
-  pub front_before : AllBefore ns k (entries (take block bs))
-  pub next_not : (b : Vec Entry Global) (e : Entry) → block < length bs → is_before (label ns (last_of (slice_index_or bs block b).items e)) k ≡ false
-
--- the entries in front of a place come before a key, and no others
-pub record Splits (ns : List Bytes) (k : List ℕ) (bs : Blocks) (block at : ℕ) : Type 0 where
-  pub place : IsPlace bs block at
-  pub inner : IsEntry bs block at
-  pub front_before : AllBefore ns k (front bs block at)
-  pub rest_not : NoneBefore ns k (rest bs block at)
-
--- the place of a name among these
-pub record IsFound (ns : List Bytes) (name : Bytes) (at : ℕ) : Type 0 where
-  pub within : at < length ns
-  pub place : place_of name ns ≡ at
-
--- a name is not among these, and its entry would stand there
-pub record IsMissing (ns : List Bytes) (name : Bytes) (bs : Blocks) (block at : ℕ) : Type 0 where
-  pub place : place_of name ns ≡ length ns
-  pub belongs : Belongs ns name bs block at
+abbrev pub Indexes : NameIndex → List Bytes → Type 0
+Indexes index ns = IsIndex ns index.table.slots.items index.beside.blocks.items
 
 -- an index that has begun is one of these names
-abbrev pub IsIndexOf : List Bytes → Blocks → Type 0
-IsIndexOf ns bs = 0 < length bs → IsIndex ns bs
+abbrev pub IsIndexOf : List Bytes → NameIndex → Type 0
+IsIndexOf ns index = 0 < length index.table.slots.items → Indexes index ns
 
 -- what is an index of some names stays one of these
-abbrev pub KeepsIndex : Blocks → Blocks → Type 0
+abbrev pub KeepsIndex : NameIndex → NameIndex → Type 0
 KeepsIndex old new = (ns : List Bytes) → IsIndexOf ns old → IsIndexOf ns new
 
--- likewise, whether or not the index has begun
-pub record Lacks (ns : List Bytes) (name : Bytes) (bs : Blocks) (block at : ℕ) : Type 0 where
+-- the place of a new member of this name belongs there
+abbrev pub IsSpot : List Bytes → Bytes → List Slot → Blocks → Spot → Type 0
+IsSpot ns name slots bs Spot.Nowhere = ⊥
+IsSpot ns name slots bs (Spot.Row f) = (f.mark ≡ mark_of name) × IsFree slots (mark_of name) f.slot
+IsSpot ns name slots bs (Spot.Beside p) = IsFull slots (mark_of name) × Belongs ns name bs p.block p.entry
+
+abbrev pub BelongsAt : NameIndex → List Bytes → Bytes → Spot → Type 0
+BelongsAt index ns name spot = IsSpot ns name index.table.slots.items index.beside.blocks.items spot
+
+-- the place of a name is not in the blocks, or its row isn't full
+abbrev pub LacksBeside : NameIndex → List Bytes → Bytes → Type 0
+LacksBeside index ns name =
+    IsFull index.table.slots.items (mark_of name) × HasKey ns (key name) (entries index.beside.blocks.items) → ⊥
+
+-- a name is not among these, and where the index has begun, its place belongs there
+pub record Lacks (ns : List Bytes) (name : Bytes) (index : NameIndex) (spot : Spot) : Type 0 where
   pub place : place_of name ns ≡ length ns
-  pub belongs : 0 < length bs → Belongs ns name bs block at
+  pub belongs : 0 < length index.table.slots.items → BelongsAt index ns name spot

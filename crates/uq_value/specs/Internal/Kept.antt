@@ -6,7 +6,7 @@ use Rattle.uq_value.specs.Depth.{data_depth, most_depth, items_depth, members_de
 use Rattle.uq_value.specs.Plain.{plain, depth}
 use Rattle.uq_value.specs.IsValue.{ItemsAreSound, MembersAreSound}
 use Rattle.uq_value.specs.Internal.Names.{name_of, names, member_depth}
-use Rattle.uq_value.specs.Internal.Beside.{CountsAre, NamesAre}
+use Rattle.uq_value.specs.Internal.Beside.{size_of, depth_of, CountsAre, NamesAre}
 use Rattle.uq_value.specs.declared.object.Member.{Member}
 use Rattle.uq_value.specs.declared.list.List.TheInside.{Inside as InList}
 use Rattle.uq_value.specs.declared.object.Object.TheInside.{Inside as InObject}
@@ -22,19 +22,19 @@ object_view o = map plain_member o.members.items
 
 -- the kept numbers are right, and so are the counts, and the list is a value
 pub record IsList (l : InList) : Type 0 where
-  pub size_is : l.kept.size ≡ data_size (list (list_view l))
-  pub depth_is : l.kept.depth ≡ data_depth (list (list_view l))
-  pub size_within : l.kept.size ≤ most_size
-  pub depth_within : l.kept.depth ≤ most_depth
+  pub size_is : size_of l.kept ≡ data_size (list (list_view l))
+  pub depth_is : depth_of l.kept ≡ data_depth (list (list_view l))
+  pub size_within : size_of l.kept ≤ most_size
+  pub depth_within : depth_of l.kept ≤ most_depth
   pub counts : CountsAre l.kept (map depth l.items.items)
   pub sound : ItemsAreSound (items_of (list_view l))
 
 -- likewise, and the index finds the names
 pub record IsObject (o : InObject) : Type 0 where
-  pub size_is : o.kept.size ≡ data_size (object (object_view o))
-  pub depth_is : o.kept.depth ≡ data_depth (object (object_view o))
-  pub size_within : o.kept.size ≤ most_size
-  pub depth_within : o.kept.depth ≤ most_depth
+  pub size_is : size_of o.kept ≡ data_size (object (object_view o))
+  pub depth_is : depth_of o.kept ≡ data_depth (object (object_view o))
+  pub size_within : size_of o.kept ≤ most_size
+  pub depth_within : depth_of o.kept ≤ most_depth
   pub counts : CountsAre o.kept (map member_depth o.members.items)
   pub index : NamesAre o.kept (names o.members.items)
   pub distinct : IsDistinct (names o.members.items)

@@ -3,10 +3,9 @@ use Rattle.uq_value.specs.Data.{names_of, IsDistinct}
 use Rattle.uq_value.specs.Places.{place_of}
 use Rattle.uq_value.specs.Plain.{plain}
 use Rattle.uq_value.specs.Put.{with_member}
-use Rattle.uq_value.specs.Internal.Index.{IsFound}
 use Rattle.uq_value.specs.Internal.Beside.{NamesAre}
 use Rattle.uq_value.specs.Internal.Kept.{plain_member}
-use Rattle.uq_value.specs.Internal.Names.{name_of, names}
+use Rattle.uq_value.specs.Internal.Names.{name_of, names, IsFound}
 use Rattle.uq_value.proofs.ByName.{place-view, member-set, names-set, member-added, names-more}
 use Rattle.uq_value.proofs.Fields.{names-view}
 use Rattle.uq_value.proofs.NamePlaces.{length-names}

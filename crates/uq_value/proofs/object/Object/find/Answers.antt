@@ -1,6 +1,5 @@
 use Rattle.std.proofs.Common.{ap, sym, ◌∙◌, subst, length, ◌≡◌}
-use Rattle.uq_value.specs.Internal.Index.{IsFound}
-use Rattle.uq_value.specs.Internal.Names.{names}
+use Rattle.uq_value.specs.Internal.Names.{names, IsFound}
 use Rattle.uq_value.specs.Places.{place_of}
 use Rattle.uq_value.specs.Reading.{find_member}
 use Rattle.uq_value.proofs.ByName.{member-found, member-missing}
