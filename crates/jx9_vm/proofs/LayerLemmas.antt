@@ -2,9 +2,11 @@
 use Rattle.std.proofs.Common.{◌≡◌, ℕ, min, ◌+◌, ◌-◌, ◌<◌, ◌≤◌, Bool, true, false, List, [], ◌∷◌, ◌++◌, refl, sym, ap, ◌∙◌, append_assoc, arith, get_or, length, drop, take, replicate, reverse}
 use Rattle.std.specs.Prelude.{nat_le, slice_set}
 use Rattle.std.proofs.Math.ListN.{drop_of_length-le}
-use Rattle.std.proofs.Math.Seq.{drop-append_seam, take-append-add, take-append_seam}
+use Rattle.std.proofs.Math.Seq.{drop-append_seam, set-append_seam, take-append-add, take-append_seam}
 use Rattle.std.proofs.lemmas.Bool.{leb-false, leb-true}
 use Rattle.std.proofs.lemmas.List.{append-nil, drop-append-le, drop-drop, drop-set-lt, drop-take, get_or-drop, length-drop, length-reverse, length-take, take-append-le, take-replicate, take-take, take_more, reverse-append, reverse-reverse, take-append-drop, take_all}
+use Rattle.uq_value.specs.declared.value.Value.{Value}
+use Rattle.jx9_compile.specs.Machine.{below}
 
 drop_at : {A : Type 0} (n : ℕ) (xs ys : List A) → length xs ≡ n → drop n (xs ++ ys) ≡ ys
 drop_at n xs ys is = ap (λ k. drop k (xs ++ ys)) (sym is) ∙ drop-append_seam xs ys
@@ -140,3 +142,30 @@ filled {A} slots params xs x = by (nat_le slots (length (take params xs))) refl
         ∙ take-append-add (take params xs) (replicate slots x) (slots - length (take params xs))
         ∙ ap (λ ys. take params xs ++ ys) (take-replicate (slots - length (take params xs)) slots x (omega arith))
         ∙ ap (λ ys. ys ++ replicate (slots - length ys) x) (sym (same_front slots params xs (nat_le params slots) refl lt))
+
+-- a value in the place of the two upper ones
+pub over_two : {A : Type 0} (floor place : ℕ) (xs : List A) (v : A) → place + 2 ≡ length xs → floor ≤ place
+    → reverse (drop floor (slice_set (take (place + 1) xs) place v)) ≡ v ∷ drop 2 (reverse (drop floor xs))
+over_two floor place xs v two h =
+    let l = length-drop floor xs in
+    let t = length-take place xs in
+    let shorter : length (take place xs) ≡ place = omega (arith, two, t) in
+    let written : slice_set (take (place + 1) xs) place v ≡ take place xs ++ v ∷ [] =
+    ap (λ ys. slice_set ys place v) (take_more xs place v (omega (arith, two)))
+    ∙ ap (λ k. slice_set (take place xs ++ get_or xs place v ∷ []) k v) (sym shorter)
+    ∙ set-append_seam (take place xs) (get_or xs place v) [] v in
+    ap (λ ys. reverse (drop floor ys)) written
+    ∙ ap reverse (drop-append-le floor (take place xs) (v ∷ []) (omega (arith, shorter, h)))
+    ∙ reverse-append (drop floor (take place xs)) (v ∷ [])
+    ∙ ap (λ ys. v ∷ reverse ys) (drop_front floor place xs h
+    ∙ ap (λ k. take k (drop floor xs)) (let e : place - floor ≡ length (drop floor xs) - 2 = omega (arith, two, h, l) in e))
+    ∙ ap (λ ys. v ∷ ys) (rest_under 2 (drop floor xs))
+
+pub below_one : (vs : List Value) → drop 1 vs ≡ below vs
+below_one [] = refl
+below_one (v ∷ vs) = refl
+
+pub below_two : (vs : List Value) → drop 2 vs ≡ below (below vs)
+below_two [] = refl
+below_two (v ∷ []) = refl
+below_two (v ∷ w ∷ vs) = refl

@@ -6,9 +6,11 @@ pub mod EventLemmas
 pub mod Turns
 pub mod Reaching
 pub mod OpLemmas
+pub mod UnshownLemmas
 pub mod JumpLemmas
 pub mod CallLemmas
 pub mod PrintLemmas
 pub mod RunLemmas
+pub mod DropLemmas
 pub mod Arms
 pub mod ExecLemmas

@@ -14,7 +14,7 @@ use Rattle.jx9_syntax.specs.declared.expression.Binary.TheVariants as binary
 use Rattle.jx9_syntax.specs.declared.expression.Change.{Change as How}
 use Rattle.jx9_syntax.specs.declared.expression.Change.TheVariants.{By, Join as JoinTo}
 use Rattle.jx9_syntax.specs.declared.expression.Step.{Step}
-use Rattle.jx9_meaning.specs.Expression.{change_units, joined, operation, shown, stepped}
+use Rattle.jx9_meaning.specs.Expression.{change_units, operation, shown, stepped}
 use Rattle.jx9_meaning.specs.Meaning.{Meaning, Goes, after, pure, some_or, ok_or, put_or, fits, sized, units_of, fault_of, ◌>>=◌, ◌>>◌}
 use Rattle.jx9_meaning.specs.Meaning as meaning
 use Rattle.jx9_meaning.specs.Operators.{Checked, operate}

@@ -1,5 +1,5 @@
 -- What follows from the clause of a call, or from a test.
-use Rattle.std.proofs.Common.{◌≡◌, Bool, true, false, Result, Ok, Err, IfOk}
+use Rattle.std.proofs.Common.{◌≡◌, Bool, true, false, Result, Ok, Err, IfOk, sym}
 use Rattle.std.specs.Prelude.{IfErr, OnOk}
 use Rattle.std.specs.Bool.{MatchBool}
 use Rattle.std.proofs.lemmas.Bool.{false≢true}
@@ -19,3 +19,7 @@ on_ok_map (Err e) h f = h
 pub on_true : {P : Type 0} (Q : Type 0) (b : Bool) → b ≡ true → P → MatchBool b P Q
 on_true Q true h p = p
 on_true Q false h p = absurd (false≢true h)
+
+pub on_false : {P : Type 0} (Q : Type 0) (b : Bool) → b ≡ false → P → MatchBool b Q P
+on_false Q false h p = p
+on_false Q true h p = absurd (false≢true (sym h))

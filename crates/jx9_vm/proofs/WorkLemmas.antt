@@ -7,7 +7,6 @@ use Rattle.std.proofs.Math.Bool.{beq}
 use Rattle.std.proofs.lemmas.Bool.{le-ltb, lt-ltb}
 use Rattle.uq_value.specs.Data.{Bytes}
 use Rattle.uq_value.specs.Faults.{TextFault}
-use Rattle.uq_value.specs.Plain.{size}
 use Rattle.uq_value.specs.Put.{Put, limited}
 use Rattle.uq_value.specs.Same.{alike}
 use Rattle.uq_value.specs.Size.{most_size, text_size}

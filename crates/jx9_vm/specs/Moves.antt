@@ -75,6 +75,19 @@ pub record IsPopped (old new : Work) : Type 0 where
   pub events : new.events ≡ old.events
   pub last : new.last ≡ old.last
 
+-- the top is dropped, and what a slot holds is taken out
+pub record IsTaken (slot : ℕ) (old new : Work) : Type 0 where
+  pub function : new.function ≡ old.function
+  pub place : new.place ≡ old.place
+  pub stack : stack_of new ≡ below (stack_of old)
+  pub under : new.stack.under ≡ old.stack.under
+  pub slots : new.slots.here ≡ slice_set old.slots.here slot Value.Null
+  pub slots_under : new.slots.under ≡ old.slots.under
+  pub calls : new.calls ≡ old.calls
+  pub units : new.units ≡ old.units
+  pub events : new.events ≡ old.events
+  pub last : new.last ≡ old.last
+
 -- ---- values
 
 -- a value on top of these, or a fault in this line
@@ -106,6 +119,11 @@ abbrev pub Stepped : ℕ → ℕ → Step → ℤ → Checked → Flow → Work 
 Stepped line slot step z (Ok v) flow old new =
     Passes flow old.units (shown step (Value.Int z) v ∷ stack_of old) (slice_set old.slots.here slot v) old new
 Stepped line slot step z (Err kind) flow old new = Quits (Fault kind line) flow old new
+
+-- what `++` or `--` makes of the number of a value
+abbrev pub after_step : Step → Option ℤ → Checked
+after_step step None = Err NotNumber
+after_step step (Some z) = operate (stepped step) (Value.Int z) (Value.Int (pos 1))
 
 -- `++` or `--` on the number of what a slot holds
 abbrev pub Counts : ℕ → ℕ → Step → Option ℤ → Flow → Work → Work → Type 0
@@ -140,6 +158,41 @@ pub data Appends (line slot : ℕ) (v : Value) (flow : Flow) (old new : Work) : 
 abbrev pub Changes : ℕ → ℕ → Change → Flow → Work → Work → Type 0
 Changes line slot (By operator) flow old new = ChangesBy line slot (operate operator (slot_of old slot) (top_of old)) flow old new
 Changes line slot Join flow old new = Appends line slot (Value.Text (text_of (slot_of old slot) ++ text_of (top_of old))) flow old new
+
+-- ---- ops with a `Pop` behind them
+
+-- goes on behind the next op, with so many units left, and these values on the stack and in the slots
+pub record Skips (flow : Flow) (left : ℕ) (values variables : List Value) (old new : Work) : Type 0 where
+  pub next : flow ≡ Next
+  pub function : new.function ≡ old.function
+  pub place : new.place ≡ old.place + 2
+  pub stack : stack_of new ≡ values
+  pub under : new.stack.under ≡ old.stack.under
+  pub slots : new.slots.here ≡ variables
+  pub slots_under : new.slots.under ≡ old.slots.under
+  pub calls : new.calls ≡ old.calls
+  pub units : new.units ≡ left
+  pub events : new.events ≡ old.events
+  pub last : new.last ≡ old.last
+
+-- a value in a slot that takes units by its size
+abbrev pub IsKept : ℕ → Value → Flow → Work → Work → Type 0
+IsKept slot v flow old new =
+    MatchBool (nat_lt old.units (units_of v)) (Quits Spent flow old new)
+    (Skips flow (old.units - units_of v) (stack_of old) (slice_set old.slots.here slot v) old new)
+
+-- An op and the `Pop` behind it are made: there is a machine between them, with a value on top that is dropped.
+pub record Drops (Moves : Flow → Work → Work → Type 0) (old new : Work) : Type 0 where
+  pub between : Work
+  pub function : between.function ≡ old.function
+  pub place : between.place ≡ old.place + 1
+  pub made : Moves Next old between
+  pub dropped : Passes Next between.units (below (stack_of between)) between.slots.here between new
+
+-- the op alone, where it ends the script
+abbrev pub Unshown : (Flow → Work → Work → Type 0) → Flow → Work → Work → Type 0
+Unshown Moves Next old new = Drops Moves old new
+Unshown Moves (Ends ending) old new = Moves (Ends ending) old new
 
 -- ---- jumps
 

@@ -1,9 +1,11 @@
 //! Values in layers, one layer for each call that is active.
 
-ghost use Rattle.std.specs.Prelude.{◌≡◌, ◌+◌, ◌-◌, ◌≤◌, ◌<◌, [], ◌∷◌, ◌++◌, drop, length, replicate, reverse, slice_set, take, IfOk, OnOk};
+ghost use Rattle.std.specs.Prelude.{◌≡◌, ◌+◌, ◌-◌, ◌≤◌, ◌<◌, [], ◌∷◌, ◌++◌, drop, length, replicate, reverse, slice_get, slice_set, take, unwrap_or, IfOk, OnOk};
 ghost use Rattle.uq_value.specs.declared.value.Value.{Value};
 ghost use Rattle.jx9_compile.specs.Machine.{below, top};
+ghost use Rattle.jx9_vm.specs.Operating.{value_of};
 
+use crate::operators::Plain;
 use std::alloc::Global;
 use std::marker::Model;
 use std::mem;
@@ -53,6 +55,7 @@ impl Layers {
     }
 
     /// The upper layer.
+    #[inline(always)]
     pub(crate) fn here(&self) -> &[Value]
         ensures { result.now ≡ self.now.here }
     {
@@ -60,12 +63,18 @@ impl Layers {
     }
 
     /// Puts a value on top.
+    #[inline(always)]
     pub(crate) fn push(&mut self, value: Value) -> Result<(), NoMemory>
         ensures here { OnOk result (self.new.here ≡ self.old.here ++ value ∷ []) }
         ensures top { OnOk result (reverse self.new.here ≡ value ∷ reverse self.old.here) }
         ensures under { OnOk result (self.new.under ≡ self.old.under) }
     {
-        Ok(self.values.push(value)?)
+        // what is small is written by itself, as a whole value that was just made in parts is slow to move
+        match value {
+            Value::Int(z) => Ok(self.values.push(Value::Int(z))?),
+            Value::Bool(b) => Ok(self.values.push(Value::Bool(b))?),
+            other => Ok(self.values.push(other)?),
+        }
     }
 
     /// Takes the top off the upper layer, null where that is empty.
@@ -91,8 +100,19 @@ impl Layers {
         let _ = self.exchange(at, value);
     }
 
+    /// Takes a value out of its place, counted from the start of the upper layer, and leaves null there. Where there is
+    /// no such place, it is null.
+    pub(crate) fn take(&mut self, at: usize) -> Value
+        ensures value { result ≡ unwrap_or (slice_get self.old.here at) Value.Null }
+        ensures here { self.new.here ≡ slice_set self.old.here at Value.Null }
+        ensures under { self.new.under ≡ self.old.under }
+    {
+        self.exchange(at, Value::Null)
+    }
+
     /// Puts a value in the place of another, and gives the other back; the value itself where there is no such place.
     fn exchange(&mut self, at: usize, value: Value) -> Value
+        ensures value { result ≡ unwrap_or (slice_get self.old.here at) value }
         ensures here { self.new.here ≡ slice_set self.old.here at value }
         ensures under { self.new.under ≡ self.old.under }
     {
@@ -100,6 +120,17 @@ impl Layers {
             return mem::replace(&mut self.values[self.floor + at], value);
         }
         value
+    }
+
+    /// Puts a number or a truth value in the place of a value, counted from the start of the upper layer, if there is one.
+    #[inline(always)]
+    pub(crate) fn set_plain(&mut self, at: usize, plain: Plain)
+        ensures here { self.new.here ≡ slice_set self.old.here at (value_of plain) }
+        ensures under { self.new.under ≡ self.old.under }
+    {
+        if at < self.values.len() - self.floor {
+            write_plain(&mut self.values[self.floor + at], plain);
+        }
     }
 
     /// So many upper values of the upper layer, the lowest first; all of it where it has fewer.
@@ -111,12 +142,36 @@ impl Layers {
     }
 
     /// Drops so many upper values of the upper layer.
+    #[inline(always)]
     pub(crate) fn drop_upper(&mut self, count: usize)
         ensures here { self.new.here ≡ take (length self.old.here - count) self.old.here }
         ensures under { self.new.under ≡ self.old.under }
     {
         let count = count.min(self.values.len() - self.floor);
         self.values.truncate(self.values.len() - count);
+    }
+
+    /// Drops the top of the upper layer.
+    #[inline(always)]
+    pub(crate) fn drop_top(&mut self)
+        ensures rest { reverse self.new.here ≡ below (reverse self.old.here) }
+        ensures under { self.new.under ≡ self.old.under }
+    {
+        if self.floor < self.values.len() {
+            drop_last(&mut self.values);
+        }
+    }
+
+    /// Puts a number or a truth value in the place of the two upper values.
+    #[inline(always)]
+    pub(crate) fn replace_two(&mut self, plain: Plain)
+        requires { 2 ≤ length self.old.here }
+        ensures here { reverse self.new.here ≡ value_of plain ∷ below (below (reverse self.old.here)) }
+        ensures under { self.new.under ≡ self.old.under }
+    {
+        let place = self.values.len() - 2;
+        drop_last(&mut self.values);
+        write_plain(&mut self.values[place], plain);
     }
 
     /// Puts an empty layer on top of all.
@@ -162,6 +217,40 @@ impl Layers {
     {
         let missing = count.saturating_sub(self.values.len() - self.floor);
         push_nulls(&mut self.values, missing)
+    }
+}
+
+/// Drops the last value. A number or a truth value owns nothing that would be given back.
+#[inline(always)]
+fn drop_last(values: &mut Vec<Value>)
+    ensures items { values.new.items ≡ take (length values.old.items - 1) values.old.items }
+    ensures length { length values.new.items ≡ length values.old.items - 1 }
+{
+    match values.last() {
+        Some(Value::Int(_)) | Some(Value::Bool(_)) => mem::forget(values.pop()),
+        _ => values.truncate(values.len().saturating_sub(1)),
+    }
+}
+
+/// Puts a number or a truth value in the place of a value.
+#[inline(always)]
+fn write_plain(value: &mut Value, plain: Plain)
+    ensures { value.new ≡ value_of plain }
+{
+    match plain {
+        Plain::Number(z) => write_number(value, z),
+        Plain::Truth(b) => *value = Value::Bool(b),
+    }
+}
+
+/// Puts a number in the place of a value. Over a number that is one word.
+#[inline(always)]
+fn write_number(value: &mut Value, z: i64)
+    ensures { value.new ≡ Value.Int z }
+{
+    match value {
+        Value::Int(number) => *number = z,
+        other => *other = Value::Int(z),
     }
 }
 

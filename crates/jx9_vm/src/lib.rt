@@ -12,6 +12,7 @@ mod running;
 mod stop;
 #[cfg(test)]
 mod tests;
+mod unshown;
 mod work;
 
 pub use ending::Ending;

@@ -1,9 +1,11 @@
 //! The ops, one by one, and the loop over them.
 
-ghost use Rattle.std.specs.Prelude.{◌≡◌, ◌-◌, ◌^◌, ◌<◌, length, IfErr, IfOk, None};
+ghost use Rattle.std.specs.Prelude.{◌≡◌, ◌-◌, ◌^◌, ◌<◌, ◌+◌, length, slice_get, IfErr, IfOk, None, Some};
+ghost use Rattle.std.specs.Bool.{OnTrue};
 ghost use Rattle.uq_json.specs.Text.{text_of as spec_text_of};
 ghost use Rattle.uq_outside.specs.Streams.{Grows};
 ghost use Rattle.jx9_compile.specs.Machine.{ops_of};
+ghost use Rattle.jx9_compile.specs.declared.op.Op.{Op as SpecOp};
 ghost use Rattle.jx9_vm.specs.Step.{Acts, At, DoesSome, Fails, Halted, IsPut, Misses, Prints, Reaches};
 ghost use Rattle.jx9_vm.specs.Work.{top_of};
 ghost use Rattle.jx9_vm.specs.declared.work.Flow.{Flow};
@@ -46,6 +48,7 @@ pub(crate) fn drive<O: Sink>(
 }
 
 /// The ops of a function, none where there is no such function.
+#[inline(always)]
 fn ops_at(code: &Code, function: usize) -> &[Op]
     ensures { result.now ≡ ops_of code.now function }
 {
@@ -56,6 +59,7 @@ fn ops_at(code: &Code, function: usize) -> &[Op]
 }
 
 /// Makes the next op. A script that has run off its ops is spent: code ends each of its functions.
+#[inline(always)]
 fn step<O: Sink>(
     code: &Code,
     work: &mut Work,
@@ -75,6 +79,7 @@ fn step<O: Sink>(
 }
 
 /// Makes an op.
+#[inline(always)]
 fn perform<O: Sink>(
     op: &Op,
     code: &Code,
@@ -98,8 +103,18 @@ fn perform<O: Sink>(
         Op::Load(slot) => work.load(alloc, *slot),
         Op::Store(slot) => Ok(work.store(*slot)),
         Op::Assign { slot, line: _ } => Ok(work.assign(*slot)),
-        Op::Count { slot, step, line } => work.count(*slot, *step, *line),
-        Op::Change { slot, how, line } => work.change(alloc, *slot, *how, *line),
+        Op::Count { slot, step, line } => {
+            if is_dropped(ops, work.place) {
+                return Ok(work.count_unshown(*slot, *step, *line));
+            }
+            work.count(*slot, *step, *line)
+        }
+        Op::Change { slot, how, line } => {
+            if is_dropped(ops, work.place) {
+                return work.change_unshown(alloc, *slot, *how, *line);
+            }
+            work.change(alloc, *slot, *how, *line)
+        }
         Op::Add { line } => work.operate(Binary::Add, *line),
         Op::Operate { operator, line } => work.operate(*operator, *line),
         Op::Not => work.not(),
@@ -117,7 +132,18 @@ fn perform<O: Sink>(
     }
 }
 
+/// Whether the op behind a place drops the top.
+#[inline(always)]
+fn is_dropped(ops: &[Op], place: usize) -> bool
+    requires { place < length ops.now }
+    ensures within { OnTrue result (place + 1 < length ops.now) }
+    ensures pops { OnTrue result (slice_get ops.now (place + 1) ≡ Some SpecOp.Pop) }
+{
+    place + 1 < ops.len() && matches!(ops[place + 1], Op::Pop)
+}
+
 /// Puts out the text of the top: one event. An event that would have the number 2^64 - 1 is not made, and ends the script.
+#[inline(never)]
 fn print<O: Sink>(work: &mut Work, alloc: Global, out: &mut O) -> Result<Flow, StopCause>
     requires { work.old.place < 2 ^ 64 - 1 }
     ensures prints { IfOk result (λ flow. Prints flow work.old work.new (O.written out.old) (O.written out.new)) }

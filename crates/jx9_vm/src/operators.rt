@@ -1,17 +1,61 @@
 //! The operators of scripts on two values.
 
-ghost use Rattle.std.specs.Prelude.{◌≡◌, ◌+ℤ◌, ◌-ℤ◌, ◌*ℤ◌, int_div, int_rem, pos, not, IfErr, IfOk, Err, Ok};
+ghost use Rattle.std.specs.Prelude.{◌≡◌, ◌+ℤ◌, ◌-ℤ◌, ◌*ℤ◌, int_div, int_rem, pos, not, IfErr, IfOk, IfSome, Err, Ok};
 ghost use Rattle.uq_value.specs.Number.{number as spec_number};
 ghost use Rattle.uq_value.specs.Order.{order as spec_order};
 ghost use Rattle.uq_value.specs.declared.value.Value.{Value};
 ghost use Rattle.jx9_meaning.specs.Expression.{shown as spec_shown, stepped};
 ghost use Rattle.jx9_meaning.specs.Operators.{arithmetic, checked, compared, divided, is_above, is_below, operate as spec_operate};
-ghost use Rattle.jx9_vm.specs.Operating.{both_numbers, whole_or_overflow};
+ghost use Rattle.jx9_vm.specs.Operating.{both_numbers, value_of, whole_or_overflow};
 
 use jx9_meaning::FaultKind;
 use jx9_syntax::{Binary, Step};
 use std::cmp::Ordering;
 use uq_value::{Value, loose_same, number, order, same};
+
+/// A number or a truth value, which needs no memory.
+#[derive(Drop)]
+pub(crate) enum Plain {
+    Number(i64),
+    Truth(bool),
+}
+
+/// What an operator gives on two numbers, None where it faults, or is one of those that are left to `operate`.
+#[tactic(auto, unfolding(jx9_meaning::specs::Operators::operate))]
+#[inline(always)]
+pub(crate) fn operate_numbers(operator: Binary, x: i64, y: i64) -> Option<Plain>
+    ensures { IfSome result (λ plain. spec_operate operator (Value.Int x) (Value.Int y) ≡ Ok (value_of plain)) }
+{
+    match operator {
+        Binary::Add => plain_sum(x, y),
+        Binary::Subtract => plain_difference(x, y),
+        Binary::Less => Some(Plain::Truth(matches!(x.cmp(&y), Ordering::Less))),
+        Binary::LessOrEqual => Some(Plain::Truth(!matches!(x.cmp(&y), Ordering::Greater))),
+        Binary::Greater => Some(Plain::Truth(matches!(x.cmp(&y), Ordering::Greater))),
+        Binary::GreaterOrEqual => Some(Plain::Truth(!matches!(x.cmp(&y), Ordering::Less))),
+        _ => None,
+    }
+}
+
+#[inline(always)]
+fn plain_sum(x: i64, y: i64) -> Option<Plain>
+    ensures { IfSome result (λ plain. checked (x +ℤ y) ≡ Ok (value_of plain)) }
+{
+    match x.checked_add(y) {
+        Some(z) => Some(Plain::Number(z)),
+        None => None,
+    }
+}
+
+#[inline(always)]
+fn plain_difference(x: i64, y: i64) -> Option<Plain>
+    ensures { IfSome result (λ plain. checked (x -ℤ y) ≡ Ok (value_of plain)) }
+{
+    match x.checked_sub(y) {
+        Some(z) => Some(Plain::Number(z)),
+        None => None,
+    }
+}
 
 /// The operator on two values: its value, or its fault.
 #[tactic(auto, unfolding(jx9_meaning::specs::Operators::operate))]

@@ -358,6 +358,86 @@ fn operators_change_variables(rt: HostRuntime) {
     );
 }
 
+/// `++` behind its variable.
+fn count(slot: u32, line: u32) -> Op {
+    Op::Count {
+        slot,
+        step: Step::IncrementAfter,
+        line,
+    }
+}
+
+fn change(slot: u32, how: Change, line: u32) -> Op {
+    Op::Change { slot, how, line }
+}
+
+#[test]
+fn a_value_that_is_dropped_at_once_stays_in_its_variable(rt: HostRuntime) {
+    let alloc = rt.alloc();
+    // $a = 7; $a -= 9; $a ..= "x"; $a ..= 3; $b++; $b++; print $a; print $b;
+    let ops = [
+        int(7),
+        Op::Store(0),
+        int(9),
+        change(0, Change::By(Binary::Subtract), 1),
+        Op::Pop,
+        text(&rt, alloc, b"x"),
+        change(0, Change::Join, 1),
+        Op::Pop,
+        int(3),
+        change(0, Change::Join, 1),
+        Op::Pop,
+        count(1, 1),
+        Op::Pop,
+        count(1, 1),
+        Op::Pop,
+        Op::Load(0),
+        Op::Print,
+        Op::Load(1),
+        Op::Print,
+        Op::End,
+    ];
+    let code = code_of_one(&rt, alloc, function(&rt, alloc, 0, 2, ops));
+    check(&rt, alloc, &code, 0, &Ending::Done, 0, b"-2x32");
+}
+
+#[test]
+fn an_op_whose_value_is_dropped_has_its_fault_and_its_units(rt: HostRuntime) {
+    let alloc = rt.alloc();
+    let ops = [
+        text(&rt, alloc, b"a"),
+        Op::Store(0),
+        count(0, 4),
+        Op::Pop,
+        Op::End,
+    ];
+    let code = code_of_one(&rt, alloc, function(&rt, alloc, 0, 1, ops));
+    let not_number = fault(FaultKind::NotNumber, 4);
+    check(&rt, alloc, &code, 0, &not_number, 0, b"");
+    let ops = [int(i64::MAX), Op::Store(0), count(0, 5), Op::Pop, Op::End];
+    let code = code_of_one(&rt, alloc, function(&rt, alloc, 0, 1, ops));
+    check(&rt, alloc, &code, 0, &fault(FaultKind::Overflow, 5), 0, b"");
+    let ops = [
+        int(0),
+        change(0, Change::By(Binary::Divide), 6),
+        Op::Pop,
+        Op::End,
+    ];
+    let code = code_of_one(&rt, alloc, function(&rt, alloc, 0, 1, ops));
+    let no_divisor = fault(FaultKind::ZeroDivisor, 6);
+    check(&rt, alloc, &code, 0, &no_divisor, 0, b"");
+    // 253 bytes, and 3 for the kind and the length
+    let ops = [
+        text(&rt, alloc, &[b'x'; 253]),
+        change(0, Change::Join, 7),
+        Op::Pop,
+        Op::End,
+    ];
+    let code = code_of_one(&rt, alloc, function(&rt, alloc, 0, 1, ops));
+    check(&rt, alloc, &code, 0, &Ending::Spent, 0, b"");
+    check(&rt, alloc, &code, 1, &Ending::Done, 1, b"");
+}
+
 #[test]
 fn joined_texts_take_units_by_their_size(rt: HostRuntime) {
     let alloc = rt.alloc();

@@ -1,6 +1,6 @@
 //! The machine's own state, and the ops that look at nothing else.
 
-ghost use Rattle.std.specs.Prelude.{◌≡◌, ◌+◌, ◌-◌, ◌^◌, ◌<◌, ◌∷◌, ◌++◌, drop, not, slice_get, slice_set, Ok, Some, IfErr, IfOk, OnErr, OnOk};
+ghost use Rattle.std.specs.Prelude.{◌≡◌, ◌+◌, ◌-◌, ◌^◌, ◌<◌, ◌≤◌, ◌∷◌, ◌++◌, drop, length, not, slice_get, slice_set, Ok, Some, IfErr, IfOk, IfSome, OnErr, OnOk};
 ghost use Rattle.std.specs.Option.{option_copied};
 ghost use Rattle.uq_value.specs.Number.{number as spec_number};
 ghost use Rattle.uq_value.specs.Put.{limited};
@@ -15,12 +15,13 @@ ghost use Rattle.jx9_compile.specs.declared.code.Code.{Code};
 ghost use Rattle.jx9_compile.specs.declared.op.Op.{Op};
 ghost use Rattle.jx9_vm.specs.Events.{last_in};
 ghost use Rattle.jx9_vm.specs.Moves.{Appends, Branches, Calls, Changes, ChangesBy, Counts, IsEntered, IsPaidFor, IsPopped, IsSized, IsUncounted, Jumps, Passes, Pays, Results, Returns, TakesUnit, Unmade};
+ghost use Rattle.jx9_vm.specs.Operating.{value_of};
 ghost use Rattle.jx9_vm.specs.Work.{joined_top, slot_of, stack_of, second_of, top_of};
 
 use crate::ending::Ending;
 use crate::joining::{append, joined};
 use crate::layers::Layers;
-use crate::operators::{operate, shown, step_from};
+use crate::operators::{Plain, operate, operate_numbers, shown, step_from};
 use crate::stop::StopCause;
 use jx9_compile::{Code, Function, Op};
 use jx9_meaning::FaultKind;
@@ -80,6 +81,7 @@ impl Work {
     }
 
     /// Puts a value on the stack, and goes on.
+    #[inline(always)]
     fn push_value(&mut self, value: Value) -> Result<Flow, StopCause>
         requires { self.old.place < 2 ^ 64 - 1 }
         ensures ok { IfOk result (λ flow. Passes flow self.old.units (value ∷ stack_of self.old) self.old.slots.here self.old self.new) }
@@ -91,6 +93,7 @@ impl Work {
     }
 
     /// Takes a unit, where one is left.
+    #[inline(always)]
     pub(crate) fn unit(&mut self) -> Flow
         requires { self.old.place < 2 ^ 64 - 1 }
         ensures { TakesUnit result self.old self.new }
@@ -104,26 +107,42 @@ impl Work {
     }
 
     /// Puts a copy of a value on the stack.
+    #[inline(always)]
     pub(crate) fn push(&mut self, alloc: Global, value: &Value) -> Result<Flow, StopCause>
         requires { self.old.place < 2 ^ 64 - 1 }
         ensures ok { IfOk result (λ flow. Passes flow self.old.units (value.now ∷ stack_of self.old) self.old.slots.here self.old self.new) }
         ensures stopped { IfErr result (Unmade self.old self.new) }
     {
-        let value = copy(alloc, value)?;
-        self.push_value(value)
+        match value {
+            // a number needs no memory, and no detour through a result
+            Value::Int(z) => self.push_value(Value::Int(*z)),
+            _ => {
+                let value = copy(alloc, value)?;
+                self.push_value(value)
+            }
+        }
     }
 
     /// Drops the top.
+    #[inline(always)]
     pub(crate) fn drop_top(&mut self) -> Flow
         requires { self.old.place < 2 ^ 64 - 1 }
         ensures { Passes result self.old.units (below (stack_of self.old)) self.old.slots.here self.old self.new }
     {
-        let _ = self.pop();
+        self.drop_value();
         self.place += 1;
         Flow::Next
     }
 
+    #[inline(always)]
+    fn drop_value(&mut self)
+        ensures { IsPopped self.old self.new }
+    {
+        self.stack.drop_top();
+    }
+
     /// Puts a copy of the top on the stack.
+    #[inline(never)]
     pub(crate) fn copy_top(&mut self, alloc: Global) -> Result<Flow, StopCause>
         requires { self.old.place < 2 ^ 64 - 1 }
         ensures ok { IfOk result (λ flow. Passes flow self.old.units (top_of self.old ∷ stack_of self.old) self.old.slots.here self.old self.new) }
@@ -143,14 +162,29 @@ impl Work {
     }
 
     /// Puts a copy of what a slot holds on the stack.
+    #[inline(always)]
     pub(crate) fn load(&mut self, alloc: Global, slot: u32) -> Result<Flow, StopCause>
         requires { self.old.place < 2 ^ 64 - 1 }
         ensures ok { IfOk result (λ flow. Passes flow self.old.units (slot_of self.old slot ∷ stack_of self.old)
             self.old.slots.here self.old self.new) }
         ensures stopped { IfErr result (Unmade self.old self.new) }
     {
+        if let Some(z) = self.slot_int(slot) {
+            return self.push_value(Value::Int(z));
+        }
         let value = self.slot_copy(alloc, slot)?;
         self.push_value(value)
+    }
+
+    /// What a slot holds, where that is a number.
+    #[inline(always)]
+    fn slot_int(&self, slot: u32) -> Option<i64>
+        ensures { IfSome result (λ z. slot_of self.now slot ≡ Value.Int z) }
+    {
+        match at(self.slots.here(), slot as usize) {
+            Some(Value::Int(z)) => Some(*z),
+            _ => None,
+        }
     }
 
     fn slot_copy(&self, alloc: Global, slot: u32) -> Result<Value, NoMemory>
@@ -174,7 +208,42 @@ impl Work {
     }
 
     /// Moves the top into a slot. Every value is within the limits of a value.
+    #[inline(always)]
     pub(crate) fn assign(&mut self, slot: u32) -> Flow
+        requires { self.old.place < 2 ^ 64 - 1 }
+        ensures fits { limited (top_of self.old) ≡ Ok (top_of self.old) }
+        ensures passes { Passes result self.old.units (below (stack_of self.old))
+            (slice_set self.old.slots.here slot (top_of self.old)) self.old self.new }
+    {
+        match self.top_plain() {
+            Some(plain) => {
+                self.drop_value();
+                self.slots.set_plain(slot as usize, plain);
+                self.place += 1;
+                Flow::Next
+            }
+            None => self.assign_value(slot),
+        }
+    }
+
+    /// The top, where that is a number or a truth value.
+    #[inline(always)]
+    fn top_plain(&self) -> Option<Plain>
+        ensures value { IfSome result (λ plain. top_of self.now ≡ value_of plain) }
+        ensures fits { IfSome result (λ plain. limited (value_of plain) ≡ Ok (value_of plain)) }
+    {
+        let value = self.stack.here().last()?;
+        is_value(value);
+        match value {
+            Value::Int(z) => Some(Plain::Number(*z)),
+            Value::Bool(b) => Some(Plain::Truth(*b)),
+            _ => None,
+        }
+    }
+
+    /// Moves the top into a slot, whatever it is.
+    #[inline(never)]
+    fn assign_value(&mut self, slot: u32) -> Flow
         requires { self.old.place < 2 ^ 64 - 1 }
         ensures fits { limited (top_of self.old) ≡ Ok (top_of self.old) }
         ensures passes { Passes result self.old.units (below (stack_of self.old))
@@ -208,7 +277,7 @@ impl Work {
         }
     }
 
-    fn slot_number(&self, slot: u32) -> Option<i64>
+    pub(crate) fn slot_number(&self, slot: u32) -> Option<i64>
         ensures { result ≡ spec_number (slot_of self.now slot) }
     {
         match at(self.slots.here(), slot as usize) {
@@ -218,7 +287,43 @@ impl Work {
     }
 
     /// An operator on the two upper values, the left one below the right one.
+    #[inline(always)]
     pub(crate) fn operate(&mut self, operator: Binary, line: u32) -> Result<Flow, StopCause>
+        requires { self.old.place < 2 ^ 64 - 1 }
+        ensures ok { IfOk result (λ flow. Results line (below (below (stack_of self.old)))
+            (spec_operate operator (second_of self.old) (top_of self.old)) flow self.old self.new) }
+        ensures stopped { IfErr result (Unmade self.old self.new) }
+    {
+        match self.plain(operator) {
+            Some(plain) => {
+                self.stack.replace_two(plain);
+                self.place += 1;
+                Ok(Flow::Next)
+            }
+            None => self.operate_values(operator, line),
+        }
+    }
+
+    /// What an operator gives on the two upper values where both are numbers, None where that is left to `operate_values`.
+    #[inline(always)]
+    fn plain(&self, operator: Binary) -> Option<Plain>
+        ensures two { IfSome result (λ _. 2 ≤ length self.now.stack.here) }
+        ensures value { IfSome result (λ plain. spec_operate operator (second_of self.now) (top_of self.now) ≡ Ok (value_of plain)) }
+    {
+        let (right, under) = self.stack.here().split_last()?;
+        let (left, _) = under.split_last()?;
+        match left {
+            Value::Int(x) => match right {
+                Value::Int(y) => operate_numbers(operator, *x, *y),
+                _ => None,
+            },
+            _ => None,
+        }
+    }
+
+    /// An operator on the two upper values, whatever they are.
+    #[inline(never)]
+    fn operate_values(&mut self, operator: Binary, line: u32) -> Result<Flow, StopCause>
         requires { self.old.place < 2 ^ 64 - 1 }
         ensures ok { IfOk result (λ flow. Results line (below (below (stack_of self.old)))
             (spec_operate operator (second_of self.old) (top_of self.old)) flow self.old self.new) }
@@ -233,6 +338,7 @@ impl Work {
     }
 
     /// `op=` on what a slot holds, with the top as its right side. What it writes takes the place of the top.
+    #[inline(never)]
     pub(crate) fn change(
         &mut self,
         alloc: Global,
@@ -269,7 +375,12 @@ impl Work {
         }
     }
 
-    fn changed(&self, slot: u32, operator: Binary, right: &Value) -> Result<Value, FaultKind>
+    pub(crate) fn changed(
+        &self,
+        slot: u32,
+        operator: Binary,
+        right: &Value,
+    ) -> Result<Value, FaultKind>
         ensures { result ≡ spec_operate operator (slot_of self.now slot) right.now }
     {
         match at(self.slots.here(), slot as usize) {
@@ -353,6 +464,7 @@ impl Work {
     }
 
     /// The opposite of the top's truth.
+    #[inline(never)]
     pub(crate) fn not(&mut self) -> Result<Flow, StopCause>
         requires { self.old.place < 2 ^ 64 - 1 }
         ensures ok { IfOk result (λ flow. Passes flow self.old.units
@@ -364,6 +476,7 @@ impl Work {
     }
 
     /// Joins the texts of so many upper values, from the lowest on.
+    #[inline(never)]
     pub(crate) fn join(&mut self, alloc: Global, count: u32, line: u32) -> Result<Flow, StopCause>
         requires { self.old.place < 2 ^ 64 - 1 }
         ensures ok { IfOk result (λ flow. IsSized line (drop count (stack_of self.old))
@@ -399,6 +512,7 @@ impl Work {
     }
 
     /// Goes on at a place ahead, or at a `Unit`, whose unit is taken at once. So no jump goes round without taking units.
+    #[inline(always)]
     pub(crate) fn jump(&mut self, ops: &[Op], to: u32) -> Flow
         ensures { Jumps ops.now to result self.old self.new }
     {
@@ -419,16 +533,28 @@ impl Work {
     }
 
     /// Drops the top, and jumps where its truth is this.
+    #[inline(always)]
     pub(crate) fn jump_where(&mut self, ops: &[Op], to: u32, wanted: bool) -> Flow
         requires { self.old.place < 2 ^ 64 - 1 }
         ensures { Branches ops.now to (alike wanted (spec_truth (top_of self.old))) result self.old self.new }
     {
-        let value = self.pop();
-        if truth(&value) == wanted {
+        let is_true = self.top_truth();
+        self.drop_value();
+        if is_true == wanted {
             return self.jump(ops, to);
         }
         self.place += 1;
         Flow::Next
+    }
+
+    #[inline(always)]
+    fn top_truth(&self) -> bool
+        ensures { result ≡ spec_truth (top_of self.now) }
+    {
+        match self.stack.here().last() {
+            Some(value) => truth(value),
+            None => false,
+        }
     }
 
     /// Calls a function with so many upper values as its arguments, and takes its first unit at once. So no calls go on

@@ -1,4 +1,6 @@
-use Rattle.jx9_vm.proofs.Arms.{arm, arm_fails, within_code}
+use Rattle.jx9_compile.specs.declared.op.Op.TheVariants.{Change, Count}
+use Rattle.jx9_vm.proofs.Arms.{arm, arm_fails, dropped_in_code, within_code}
+use Rattle.jx9_vm.proofs.DropLemmas.{unshown_did}
 use Rattle.jx9_vm.proofs.Outcomes.{if_err_map, if_ok_map}
 use Rattle.jx9_vm.proofs.OpLemmas.{add_did, assign_did, change_did, copy_did, count_did, join_did, load_did, not_did, operate_did, pop_did, push_did, store_did, unit_did}
 use Rattle.jx9_vm.proofs.JumpLemmas.{if_did, jump_did, unless_did}
@@ -37,17 +39,32 @@ returns-in-Store-clause-did g c = arm _ _ _ _ _ _ _ _ c.in-Store.is (store_did _
 pub returns-in-Assign-clause-did : goal.returns-in-Assign-clause-did
 returns-in-Assign-clause-did g c = arm _ _ _ _ _ _ _ _ c.in-Assign.is (assign_did _ _ _ _ _ (within_code c.args.code.now c.args.ops.now c.args.work.now c.requires.ops c.requires.within) _ _ c.assign.ensures.fits c.assign.ensures.passes)
 
-pub returns-in-Count-clause-did : goal.returns-in-Count-clause-did
-returns-in-Count-clause-did g c = if_ok_map c.count.result c.count.ensures.ok (λ flow ok. arm _ _ _ _ _ _ _ _ c.in-Count.is (count_did _ _ _ _ _ (within_code c.args.code.now c.args.ops.now c.args.work.now c.requires.ops c.requires.within) _ _ _ ok))
+pub returns-then-is_dropped-clause-did : goal.returns-then-is_dropped-clause-did
+returns-then-is_dropped-clause-did g c =
+    arm _ _ _ _ _ _ _ _ c.in-Count.is (unshown_did _ (Count c.in-Count.slot c.in-Count.step c.in-Count.line) _ c.count_unshown.result c.args.work.now c.count_unshown.new.self _
+    (dropped_in_code c.args.code.now c.args.ops.now c.args.work.now c.requires.ops c.if-is_dropped.ensures.pops)
+    (λ f mid counts. count_did _ f c.args.work.now mid _ (within_code c.args.code.now c.args.ops.now c.args.work.now c.requires.ops c.requires.within) _ _ _ counts) c.count_unshown.ensures)
 
-pub returns-in-Count-clause-fails : goal.returns-in-Count-clause-fails
-returns-in-Count-clause-fails g c = if_err_map c.count.result c.count.ensures.stopped (λ cause unmade. memory_fails _ _ _ _ _ _ cause unmade)
+pub returns-else-is_dropped-clause-did : goal.returns-else-is_dropped-clause-did
+returns-else-is_dropped-clause-did g c = if_ok_map c.count.result c.count.ensures.ok (λ flow ok. arm _ _ _ _ _ _ _ _ c.in-Count.is (count_did _ _ _ _ _ (within_code c.args.code.now c.args.ops.now c.args.work.now c.requires.ops c.requires.within) _ _ _ ok))
 
-pub returns-in-Change-clause-did : goal.returns-in-Change-clause-did
-returns-in-Change-clause-did g c = if_ok_map c.change.result c.change.ensures.ok (λ flow ok. arm _ _ _ _ _ _ _ _ c.in-Change.is (change_did _ _ _ _ _ (within_code c.args.code.now c.args.ops.now c.args.work.now c.requires.ops c.requires.within) _ _ _ ok))
+pub returns-else-is_dropped-clause-fails : goal.returns-else-is_dropped-clause-fails
+returns-else-is_dropped-clause-fails g c = if_err_map c.count.result c.count.ensures.stopped (λ cause unmade. memory_fails _ _ _ _ _ _ cause unmade)
 
-pub returns-in-Change-clause-fails : goal.returns-in-Change-clause-fails
-returns-in-Change-clause-fails g c = if_err_map c.change.result c.change.ensures.stopped (λ cause unmade. memory_fails _ _ _ _ _ _ cause unmade)
+pub returns-then-is_dropped-2-clause-did : goal.returns-then-is_dropped-2-clause-did
+returns-then-is_dropped-2-clause-did g c =
+    if_ok_map c.change_unshown.result c.change_unshown.ensures.ok (λ flow ok. arm _ _ _ _ _ _ _ _ c.in-Change.is (unshown_did _ (Change c.in-Change.slot c.in-Change.how c.in-Change.line) _ flow c.args.work.now c.change_unshown.new.self _
+    (dropped_in_code c.args.code.now c.args.ops.now c.args.work.now c.requires.ops c.if-is_dropped-2.ensures.pops)
+    (λ f mid changes. change_did _ f c.args.work.now mid _ (within_code c.args.code.now c.args.ops.now c.args.work.now c.requires.ops c.requires.within) _ _ _ changes) ok))
+
+pub returns-then-is_dropped-2-clause-fails : goal.returns-then-is_dropped-2-clause-fails
+returns-then-is_dropped-2-clause-fails g c = if_err_map c.change_unshown.result c.change_unshown.ensures.stopped (λ cause unmade. memory_fails _ _ _ _ _ _ cause unmade)
+
+pub returns-else-is_dropped-2-clause-did : goal.returns-else-is_dropped-2-clause-did
+returns-else-is_dropped-2-clause-did g c = if_ok_map c.change.result c.change.ensures.ok (λ flow ok. arm _ _ _ _ _ _ _ _ c.in-Change.is (change_did _ _ _ _ _ (within_code c.args.code.now c.args.ops.now c.args.work.now c.requires.ops c.requires.within) _ _ _ ok))
+
+pub returns-else-is_dropped-2-clause-fails : goal.returns-else-is_dropped-2-clause-fails
+returns-else-is_dropped-2-clause-fails g c = if_err_map c.change.result c.change.ensures.stopped (λ cause unmade. memory_fails _ _ _ _ _ _ cause unmade)
 
 pub returns-in-Add-clause-did : goal.returns-in-Add-clause-did
 returns-in-Add-clause-did g c = if_ok_map c.operate.result c.operate.ensures.ok (λ flow ok. arm _ _ _ _ _ _ _ _ c.in-Add.is (add_did _ _ _ _ _ (within_code c.args.code.now c.args.ops.now c.args.work.now c.requires.ops c.requires.within) _ ok))

@@ -1,4 +1,4 @@
-use Rattle.std.proofs.Common.{◌≡◌, ℤ, sym, ap, ◌∙◌, w64, rules}
+use Rattle.std.proofs.Common.{◌≡◌, sym, ap, ◌∙◌, w64, rules}
 use Rattle.std.specs.Prelude.{◌*ℤ◌}
 use mir.Val.{to_z, of_z}
 use Rattle.uq_value.specs.Number.{number}

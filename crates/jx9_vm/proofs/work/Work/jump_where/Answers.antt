@@ -6,8 +6,8 @@ use Rattle.jx9_vm.proofs.Outcomes.{on_true}
 use Rattle.jx9_vm.proofs.WorkLemmas.{alike_by}
 use Rattle.jx9_vm.proofs.work.Work.jump_where.Goals as goal
 
-pub returns-then-truth-wanted : goal.returns-then-truth-wanted
-returns-then-truth-wanted c =
-    let e : truth (top_of c.args.self.now) ≡ c.truth.result = ap truth (sym c.pop-value.ensures.value) ∙ sym c.truth.ensures in
-    on_true _ (alike c.args.wanted (truth (top_of c.args.self.now))) (ap (alike c.args.wanted) e ∙ alike_by c.truth.result c.args.wanted c.if-truth-wanted.true)
-    (c.pop-value.new.self, c.pop-value.ensures.popped, c.jump.ensures)
+pub returns-then-is_true-wanted : goal.returns-then-is_true-wanted
+returns-then-is_true-wanted c =
+    let e : truth (top_of c.args.self.now) ≡ c.top_truth-is_true.result = sym c.top_truth-is_true.ensures in
+    on_true _ (alike c.args.wanted (truth (top_of c.args.self.now))) (ap (alike c.args.wanted) e ∙ alike_by c.top_truth-is_true.result c.args.wanted c.if-is_true-wanted.true)
+    (c.drop_value.new.self, c.drop_value.ensures, c.jump.ensures)
